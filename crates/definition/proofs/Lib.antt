@@ -1,0 +1,14 @@
+pub mod Bench
+pub mod Walks
+pub mod Prefixes
+pub mod Places
+pub mod Trims
+pub mod Tests
+pub mod Meaning
+pub mod Final
+pub mod Pieces
+pub mod Accepted
+pub mod Substitution
+pub mod OneKey
+pub mod Steps
+pub mod Sizes

@@ -1,0 +1,11 @@
+pub mod Bases
+pub mod Prefix
+pub mod Change
+pub mod Request
+pub mod Piece
+pub mod Place
+pub mod Answer
+pub mod Verdict
+pub mod Reply
+pub mod Bench
+pub mod Walk
