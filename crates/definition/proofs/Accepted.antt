@@ -18,8 +18,8 @@ use Rattle.definition.specs.declared.Refusal.the-variants.{BadCode}
 use Rattle.definition.specs.declared.PieceFound.{PieceFound}
 use Rattle.definition.specs.declared.PieceFound.the-variants.{InPiece, NoPiece}
 use Rattle.definition.specs.declared.Piece.{Piece}
-use Rattle.definition.specs.Change.{Change, spelled, altered, trimmed}
-use Rattle.definition.specs.Request.{Request, boundOf, kindOf, editOf, directionOf, startOf, endOf, changeOf}
+use Rattle.definition.specs.Change.{Change, spelled, trimmed}
+use Rattle.definition.specs.Request.{Request, alteredBy, boundOf, kindOf, editOf, directionOf, startOf, endOf, changeOf}
 use Rattle.definition.specs.Verdict.{Answer, Verdict, refused, answered, verdict, Row, firstGiven, targetRows, changeRows, requestRows, rows, badTarget, outOfBounds, badInsertion, tooLong, readAlternative, longestTarget, longestAllele, answeredAtOnce, pieceOf, normal, answerAtOnce, answerMoved, answeredOr16, movedIn, afterPiece, afterShortcuts, answerIn, refusedOr}
 use Rattle.definition.specs.Answer.{Named}
 use Rattle.definition.proofs.Tests.{or-false}
@@ -115,10 +115,6 @@ unfolding pieceOf longestTarget
 piece-holds r s =
     piece-for-holds (kindOf (r .kindCode)) (r .exonBytes) (boundOf (r .cdsStart)) (boundOf (r .cdsEnd)) (startOf r) (endOf r) (s .ordered)
     (omega (arith, s .inTarget, s .short))
-
--- the altered sequence of a request
-abbrev pub alteredBy : Request → List ℕ
-alteredBy r = altered (r .target) (changeOf r)
 
 -- what a request's answer is inside a piece
 abbrev pub normalOf : Request → Piece → Option Named

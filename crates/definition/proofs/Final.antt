@@ -39,25 +39,30 @@ mixed-kept n n′ w h k = omega arith
 mixed-end : (n p s : ℕ) → p + s < n → (n - s ≡ p + (n - (p + s))) × (p + (n - (p + s)) ≤ n) × (p + s ≤ n)
 mixed-end n p s h = omega arith
 
--- an answer with alleles that restore the altered sequence denotes it
-named-denotes : (direction : Direction) (kind : Kind) (piece : Piece) (target after : List ℕ) (q : ℕ) (ref alt : List ℕ) (n : Named) → 1 ≤ length target
-    → Alleles target after q ref alt → namedAt direction kind piece target q ref alt ≡ some n → denoted target n ≡ after
+-- what is named at a place, where row 16 does not refuse it
+pub named-is : (direction : Direction) (kind : Kind) (piece : Piece) (target : List ℕ) (q : ℕ) (ref alt : List ℕ) (n : Named)
+    → namedAt direction kind piece target q ref alt ≡ some n → lastBaseRule kind target (firstBaseRule target (named direction piece target q ref alt)) ≡ n
 unfolding namedAt
-named-denotes direction kind piece target after q ref alt n big a e = go (leavesTarget direction piece target q ref alt) refl
+named-is direction kind piece target q ref alt n e = go (leavesTarget direction piece target q ref alt) refl
   where
     result : Named
     result = lastBaseRule kind target (firstBaseRule target (named direction piece target q ref alt))
 
-    go : (b : Bool) → leavesTarget direction piece target q ref alt ≡ b → denoted target n ≡ after
+    go : (b : Bool) → leavesTarget direction piece target q ref alt ≡ b → result ≡ n
     go true t =
         let f : none ≡ some n = rw t at e in
         cc
     go false t =
         let f : some result ≡ some n = rw t at e in
-        let g : result ≡ n = cc in
-        subst (λ (x : Named). denoted target x ≡ after) g
-        (means-last kind target after (firstBaseRule target (named direction piece target q ref alt))
-        (means-first target after (named direction piece target q ref alt) big (means-named target after q direction piece ref alt a)))
+        cc
+
+-- an answer with alleles that restore the altered sequence denotes it
+named-denotes : (direction : Direction) (kind : Kind) (piece : Piece) (target after : List ℕ) (q : ℕ) (ref alt : List ℕ) (n : Named) → 1 ≤ length target
+    → Alleles target after q ref alt → namedAt direction kind piece target q ref alt ≡ some n → denoted target n ≡ after
+named-denotes direction kind piece target after q ref alt n big a e =
+    subst (λ (x : Named). denoted target x ≡ after) (named-is direction kind piece target q ref alt n e)
+    (means-last kind target after (firstBaseRule target (named direction piece target q ref alt))
+    (means-first target after (named direction piece target q ref alt) big (means-named target after q direction piece ref alt a)))
 
 module _ (direction : Direction) (piece : Piece) (target : List ℕ) (c : Change) (order : c .from ≤ c .to) (left : piece .left .0 ≤ c .from)
     (right : c .to ≤ rightEdge piece target) where
@@ -70,7 +75,7 @@ module _ (direction : Direction) (piece : Piece) (target : List ℕ) (c : Change
   below h = omega arith
 
   -- the trimmed change lies where the spelled one did
-  trimmed-inside : Inside piece target (trimmed direction target c .referenceSize) (trimmed direction target c .start)
+  pub trimmed-inside : Inside piece target (trimmed direction target c .referenceSize) (trimmed direction target c .start)
   unfolding trimmed trimmedBy
   trimmed-inside =
       let f : trimmedFront direction (referenceOf target c) (c .inserted) + trimmedEnd direction (referenceOf target c) (c .inserted) ≤ length (referenceOf target c) =
@@ -80,7 +85,7 @@ module _ (direction : Direction) (piece : Piece) (target : List ℕ) (c : Change
       record { atLeft = omega arith; atRight = from-edge piece target e .0; inTarget = from-edge piece target e .1 }
 
   -- a place, the sizes of the alleles there, and that the alleles restore the altered sequence
-  pub Restores : ℕ → ℕ → ℕ → Type 0
+  unfoldable pub Restores : ℕ → ℕ → ℕ → Type 0
   Restores q k m = (q + k ≤ length target) × (splice target q (q + k) (slice q (q + m) (altered target c)) ≡ altered target c)
 
   -- a change with an allele used up: what is left of it is the difference in length, at an equivalent place inside

@@ -12,3 +12,6 @@ pub mod Substitution
 pub mod OneKey
 pub mod Steps
 pub mod Sizes
+pub mod Refusals
+pub mod Answers
+pub mod Numbers

@@ -44,6 +44,20 @@ copy-behind target ins g h e =
     ap (λ (x : List ℕ). x ++ drop (g + length ins) target) (sym e) ∙ slice-rest g (g + length ins) target (omega arith) h in
     ap₂ _++_ front back ∙ append-assoc (take g target) ins (drop g target)
 
+-- the copy beside an insertion lies in the target
+pub copy-fits : (direction : Direction) (piece : Piece) (target : List ℕ) (g : ℕ) (ins : List ℕ) → g ≤ length target
+    → copyBeside direction piece target g ins ≡ true → copyStart direction g (length ins) + length ins ≤ length target
+unfolding copyBeside copyStart
+copy-fits Rightward piece target g ins h t =
+    let b : (leb (piece .left .0 + length ins) g ≡ true) × (sameBases (slice (g - length ins) g target) ins ≡ true) = and-true _ _ t in
+    let l : piece .left .0 + length ins ≤ g = leb-true _ _ (b .0) in
+    omega arith
+copy-fits Leftward piece target g ins h t =
+    let b : (leb (g + length ins) (piece .right .0) ≡ true) × (sameBases (slice g (g + length ins) target) ins ≡ true) = and-true _ _ t in
+    let s : slice g (g + length ins) target ≡ ins = same-equal _ _ (b .1) in
+    let k : length (slice g (g + length ins) target) ≡ length ins = ap length s in
+    omega (arith, simp (length-drop, length-take) at k)
+
 module _ (target after : List ℕ) (q : ℕ) where
   means-insertion : (ins : List ℕ) → q ≤ length target → splice target q q ins ≡ after
       → Means target after (record { class = Insertion; start = q; end = q + 1; reference = []; alternative = ins })
@@ -82,8 +96,7 @@ module _ (target after : List ℕ) (q : ℕ) where
   means-copy Leftward piece ins p h e t =
       let b : (leb (q + length ins) (piece .right .0) ≡ true) × (sameBases (slice q (q + length ins) target) ins ≡ true) = and-true _ _ t in
       let s : slice q (q + length ins) target ≡ ins = same-equal _ _ (b .1) in
-      let k : length (slice q (q + length ins) target) ≡ length ins = ap length s in
-      let f : q + length ins ≤ length target = omega (arith, simp (length-drop, length-take) at k) in
+      let f : q + length ins ≤ length target = copy-fits Leftward piece target q ins h t in
       let y : q + 1 - 1 ≡ q = omega arith in
       means-duplication (q + 1) (q + length ins) ins (omega arith) f (rw (y, s) (copy-behind target ins q f s ∙ e))
 

@@ -21,15 +21,16 @@ use Rattle.definition.specs.declared.Class.the-variants.{Unchanged}
 use Rattle.definition.specs.declared.Piece.{Piece}
 use Rattle.definition.specs.Bases.{sameBases}
 use Rattle.definition.specs.Change.{Change, spelled, altered, trimmed}
-use Rattle.definition.specs.Request.{Request, kindOf, editOf, directionOf, startOf, endOf, changeOf}
+use Rattle.definition.specs.Request.{Request, alteredBy, kindOf, editOf, directionOf, startOf, endOf, changeOf}
 use Rattle.definition.specs.Place.{rightEdge}
 use Rattle.definition.specs.Answer.{Named, denoted}
 use Rattle.definition.specs.Verdict.{Answer, answered, verdict, replacedAtOnce, answeredAtOnce, pieceOf, answerIn, normal}
+use Rattle.definition.specs.Demand3.{Demand3}
 use Rattle.definition.proofs.Tests.{and-true, same-equal, same-refl}
 use Rattle.definition.proofs.Places.{slice-rest}
 use Rattle.definition.proofs.Trims.{one-normal}
 use Rattle.definition.proofs.Final.{normal-denotes}
-use Rattle.definition.proofs.Accepted.{alteredBy, normalOf, accepted-sound, accepted-in, Route, atOnce, moved, route, at-once-what, moved-what, Sound, Lies, lies, piece-holds}
+use Rattle.definition.proofs.Accepted.{normalOf, accepted-sound, accepted-in, Route, atOnce, moved, route, at-once-what, moved-what, Sound, Lies, lies, piece-holds}
 use Rattle.definition.proofs.Pieces.{Holds}
 use Rattle.definition.proofs.Substitution as Substitution
 
@@ -98,7 +99,7 @@ accepted-normal r a p s e changed = go (route r (InPiece p) a e)
         let y : p ≡ w = cc in
         subst (λ (x : Piece). normalOf r x ≡ some (a .what)) (sym y) (g ∙ ap some (moved-what r w n a h))
 
-right-inside : (target : List ℕ) (p : Piece) (n e : ℕ) → n ≤ e → e ≤ length target → e ≤ p .right .0 → n ≤ rightEdge p target
+pub right-inside : (target : List ℕ) (p : Piece) (n e : ℕ) → n ≤ e → e ≤ length target → e ≤ p .right .0 → n ≤ rightEdge p target
 unfolding rightEdge
 right-inside target p n e h k l = omega arith
 
@@ -191,17 +192,13 @@ module _ (r s : Request) (a b : Answer) (p : Piece)
   pub one-key-in : (a .what ≡ b .what) ↔ (alteredBy r ≡ alteredBy s)
   one-key-in = (one-key-only, one-key-if)
 
--- Law 7. The windows, the edits, the ranges and the alternatives are free, and so are the tables where they give both ranges one piece
-pub one-key : (r s : Request) (a b : Answer) (p : Piece)
-    → r .target ≡ s .target → r .kindCode ≡ s .kindCode → r .directionCode ≡ s .directionCode
-    → verdict r ≡ answered a → verdict s ≡ answered b
-    → pieceOf r ≡ InPiece p → pieceOf s ≡ InPiece p
-    → (alteredBy r ≡ r .target → ⊥) → (alteredBy s ≡ s .target → ⊥)
-    → (a .what ≡ b .what) ↔ (alteredBy r ≡ alteredBy s)
-one-key r s a b p target kind direction er es pr ps cr cs =
-    let sr : Sound r = accepted-sound r a er in
-    let ss : Sound s = accepted-sound s b es in
-    one-key-in r s a b p target kind direction sr ss
-    (subst (Holds (startOf r) (endOf r)) pr (piece-holds r sr))
-    (subst (Holds (startOf s) (endOf s)) ps (piece-holds s ss))
-    (rw pr at (accepted-in r a er)) (rw ps at (accepted-in s b es)) cr cs
+pub demand-3 : Demand3
+demand-3 = record {
+  oneKey = λ r s a b setting one er es cr cs.
+      let sr : Sound r = accepted-sound r a er in
+      let ss : Sound s = accepted-sound s b es in
+      one-key-in r s a b (one .piece) (setting .target) (setting .kind) (setting .direction) sr ss
+      (subst (Holds (startOf r) (endOf r)) (one .first) (piece-holds r sr))
+      (subst (Holds (startOf s) (endOf s)) (one .second) (piece-holds s ss))
+      (rw (one .first) at (accepted-in r a er)) (rw (one .second) at (accepted-in s b es)) cr cs;
+}

@@ -18,16 +18,12 @@ use Rattle.definition.specs.declared.Piece.{Piece}
 use Rattle.definition.specs.Bases.{complement, reverseComplement, sameBases}
 use Rattle.definition.specs.Change.{Change, spelled, altered, referenceOf, trimmed, trimmedBy}
 use Rattle.definition.specs.Request.{Request, kindOf, editOf, directionOf, startOf, endOf, changeOf}
-use Rattle.definition.specs.Answer.{Named, named, namedInsertion, namedReplacement, firstBaseRule, lastBaseRule, copyBeside, isInversion, hasLastBaseRule, leavesTarget}
+use Rattle.definition.specs.Answer.{Named, named, namedInsertion, namedReplacement, firstBaseRule, lastBaseRule, copyBeside, isInversion, hasLastBaseRule}
 use Rattle.definition.specs.Place.{placeOf}
 use Rattle.definition.specs.Verdict.{Answer, answered, verdict, longestAllele, answerRoom, readAlternative, replacedAtOnce, answeredAtOnce, pieceOf, namedAt, normal, normalAt}
-use Rattle.definition.proofs.Tests.{and-true}
+use Rattle.definition.proofs.Final.{named-is}
+use Rattle.definition.proofs.Tests.{none-some, and-true}
 use Rattle.definition.proofs.Accepted.{Sound, accepted-sound, accepted-in, Route, atOnce, moved, route, at-once-what, moved-what}
-
-none-some : {n : Named} → none ≡ some n → ⊥
-none-some e =
-    let z : _≡_ {A = ℕ} 0 1 = cc in
-    omega arith
 
 slice-short : (f t : ℕ) (l : List ℕ) → length (slice f t l) ≤ t - f
 slice-short f t l = simp (length-drop, length-take) (omega arith)
@@ -91,23 +87,10 @@ short-last kind target limit n f = go (hasLastBaseRule kind && eqb (n .end) (len
 
 short-at : (direction : Direction) (kind : Kind) (piece : Piece) (target : List ℕ) (limit q : ℕ) (ref alt : List ℕ) (n : Named)
     → 1 ≤ length target → length ref ≤ limit → length alt ≤ limit → namedAt direction kind piece target q ref alt ≡ some n → Short (suc limit) n
-unfolding namedAt
-short-at direction kind piece target limit q ref alt n big r a e = go (leavesTarget direction piece target q ref alt) refl
-  where
-    result : Named
-    result = lastBaseRule kind target (firstBaseRule target (named direction piece target q ref alt))
-
-    go : (b : Bool) → leavesTarget direction piece target q ref alt ≡ b → Short (suc limit) n
-    go true t =
-        let f : none ≡ some n = rw t at e in
-        let z : _≡_ {A = ℕ} 0 1 = cc in
-        absurd (omega arith)
-    go false t =
-        let f : some result ≡ some n = rw t at e in
-        let g : result ≡ n = cc in
-        subst (Short (suc limit)) g
-        (short-last kind target limit (firstBaseRule target (named direction piece target q ref alt))
-        (fits-first target limit (named direction piece target q ref alt) big (short-named target limit direction piece q ref alt r a)))
+short-at direction kind piece target limit q ref alt n big r a e =
+    subst (Short (suc limit)) (named-is direction kind piece target q ref alt n e)
+    (short-last kind target limit (firstBaseRule target (named direction piece target q ref alt))
+    (fits-first target limit (named direction piece target q ref alt) big (short-named target limit direction piece q ref alt r a)))
 
 reference-size : (direction : Direction) (target : List ℕ) (c : Change) (limit : ℕ) → c .to - c .from ≤ limit → trimmed direction target c .referenceSize ≤ limit
 unfolding trimmed trimmedBy referenceOf

@@ -10,7 +10,7 @@ use Rattle.definition.specs.declared.Direction.{Direction}
 use Rattle.definition.specs.declared.Direction.the-variants.{Rightward, Leftward}
 use Rattle.definition.specs.declared.Bound.{Bound}
 use Rattle.definition.specs.declared.Bound.the-variants.{Absent, At, Negative}
-use Rattle.definition.specs.Change.{Change, spelled}
+use Rattle.definition.specs.Change.{Change, spelled, altered}
 use lib.Signed.{mag}
 
 pub record Request : Type 0 where
@@ -61,3 +61,7 @@ endOf r = mag (r .rangeEnd)
 -- the change that a request spells
 unfoldable pub changeOf : Request → Change
 changeOf r = spelled (editOf (r .editCode)) (r .target) (startOf r) (endOf r) (r .alternative)
+
+-- and its altered sequence
+abbrev pub alteredBy : Request → List ℕ
+alteredBy r = altered (r .target) (changeOf r)
