@@ -1,6 +1,5 @@
--- The marked rows of 01's bench: every answer of the table is the definition's. Assumes nothing.
-use mathlib.Core.Path.{_≡_, refl}
-use mathlib.Core.List.{map}
+-- The marked rows of 01's bench are one theorem, the rows that they leave open a second. Assumes nothing.
+use mathlib.Core.Path.{refl}
 use Rattle.definition.specs.Bases.{isBase, complement, reverseComplement}
 use Rattle.definition.specs.Prefix.{lcs}
 use Rattle.definition.specs.Change.{spelled, altered, referenceOf, trimmedFront, trimmedEnd, trimmedBy, trimmed}
@@ -8,9 +7,13 @@ use Rattle.definition.specs.Request.{kindOf, editOf, directionOf, boundO
 use Rattle.definition.specs.Piece.{little, boundInTarget, boundsInOrder, tablesHold, piecesOf, wholePiece, cutAt, exonPiece, transcriptPiece, pieceFor}
 use Rattle.definition.specs.Place.{rightEdge, furthest, isPure, placeOf, stoppedByBase, probesOf}
 use Rattle.definition.specs.Answer.{copyBeside, copyStart, namedInsertion, isInversion, namedReplacement, named, replacedOrUnchanged, firstBaseRule, hasLastBaseRule, lastBaseRule, leavesTarget}
-use Rattle.definition.specs.Bench.{BenchRow, benchRows}
+use Rattle.definition.specs.Bench.{Answered, benchRows, furtherRows}
 use Rattle.definition.specs.Verdict.{verdict, longestTarget, longestAllele, longestWindow, answerRoom, readAlternative, badCode, badWindow, badTarget, badBase, outOfBounds, badInsertion, tooLong, badAllele, noRoom, badTables, targetRows, changeRows, requestRows, rows, replacedAtOnce, answeredAtOnce, pieceOf, namedAt, normalAt, normal, answerAtOnce, answerMoved, answeredOr16, movedIn, afterPiece, afterShortcuts, answerIn, refusedOr}
 
-pub bench : map (λ (row : BenchRow). verdict (row .asked)) benchRows ≡ map (λ (row : BenchRow). row .answer) benchRows
+pub bench : Answered benchRows
 unfolding benchRows isBase complement reverseComplement lcs spelled altered referenceOf trimmedFront trimmedEnd trimmedBy trimmed kindOf editOf directionOf boundOf startOf endOf changeOf little boundInTarget boundsInOrder tablesHold piecesOf wholePiece cutAt exonPiece transcriptPiece pieceFor rightEdge furthest isPure placeOf stoppedByBase probesOf copyBeside copyStart namedInsertion isInversion namedReplacement named replacedOrUnchanged firstBaseRule hasLastBaseRule lastBaseRule leavesTarget verdict longestTarget longestAllele longestWindow answerRoom readAlternative badCode badWindow badTarget badBase outOfBounds badInsertion tooLong badAllele noRoom badTables targetRows changeRows requestRows rows replacedAtOnce answeredAtOnce pieceOf namedAt normalAt normal answerAtOnce answerMoved answeredOr16 movedIn afterPiece afterShortcuts answerIn refusedOr
 bench = refl
+
+pub bench-further : Answered furtherRows
+unfolding furtherRows isBase complement reverseComplement lcs spelled altered referenceOf trimmedFront trimmedEnd trimmedBy trimmed kindOf editOf directionOf boundOf startOf endOf changeOf little boundInTarget boundsInOrder tablesHold piecesOf wholePiece cutAt exonPiece transcriptPiece pieceFor rightEdge furthest isPure placeOf stoppedByBase probesOf copyBeside copyStart namedInsertion isInversion namedReplacement named replacedOrUnchanged firstBaseRule hasLastBaseRule lastBaseRule leavesTarget verdict longestTarget longestAllele longestWindow answerRoom readAlternative badCode badWindow badTarget badBase outOfBounds badInsertion tooLong badAllele noRoom badTables targetRows changeRows requestRows rows replacedAtOnce answeredAtOnce pieceOf namedAt normalAt normal answerAtOnce answerMoved answeredOr16 movedIn afterPiece afterShortcuts answerIn refusedOr
+bench-further = refl

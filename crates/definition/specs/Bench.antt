@@ -1,17 +1,22 @@
 -- The bench of 01 on target CAAATGGTACCA: the rows that it marks, each request beside its answer. Exons and alternatives are written out in
 -- bytes; L is 12, the window 20, there is no CDS. Assumes nothing.
 use Prim.Native.Nat.{ℕ}
-use mathlib.Core.List.{List, [], _∷_}
+use mathlib.Core.Path.{_≡_}
+use mathlib.Core.List.{List, [], _∷_, map}
 use lib.IntN.{pos, negsuc}
 use Rattle.definition.specs.declared.Refusal.the-variants.{VariantSpanOutsideSequenceBounds}
 use Rattle.definition.specs.declared.Class.{Class}
 use Rattle.definition.specs.declared.Class.the-variants.{Insertion, Duplication, Deletion, Replacement, Inversion, Unchanged}
 use Rattle.definition.specs.Request.{Request}
-use Rattle.definition.specs.Verdict.{Verdict, refused, answered}
+use Rattle.definition.specs.Verdict.{Verdict, refused, answered, verdict}
 
 pub record BenchRow : Type 0 where
   pub asked : Request
   pub answer : Verdict
+
+-- what the definition answers to the rows' requests is what the rows say
+abbrev pub Answered : List BenchRow → Type 0
+Answered table = map (λ (row : BenchRow). verdict (row .asked)) table ≡ map (λ (row : BenchRow). row .answer) table
 
 abbrev pub A : ℕ
 A = 65
@@ -56,6 +61,9 @@ onTwo = asks 1 (0 ∷ 0 ∷ 0 ∷ 0 ∷ 4 ∷ 0 ∷ 0 ∷ 0 ∷ 4 ∷ 0 ∷ 0 �
 abbrev pub ins : ℕ
 ins = 0
 
+abbrev pub dup : ℕ
+dup = 1
+
 abbrev pub del : ℕ
 del = 2
 
@@ -90,4 +98,13 @@ benchRows =
     ∷ record { asked = onOpen ins 0 2 (G ∷ C ∷ []) left; answer = gives Replacement 1 1 (C ∷ []) (C ∷ G ∷ C ∷ []) 1 }
     ∷ record { asked = onOpen ins 10 12 (G ∷ G ∷ []) left; answer = refused VariantSpanOutsideSequenceBounds }
     ∷ record { asked = onTwo ins 4 6 (A ∷ T ∷ []) right; answer = gives Insertion 5 6 [] (A ∷ T ∷ []) 1 }
+    ∷ []
+
+-- Rows that the marked ones leave open: open targets have no last-base rule; a duplication's copy goes in at gap end in both directions; a
+-- change with both alleles empty ends at L and not past it, so the last-base rule leaves it
+unfoldable pub furtherRows : List BenchRow
+furtherRows =
+    record { asked = onOpen ins 10 12 (A ∷ G ∷ []) right; answer = gives Insertion 12 13 [] (G ∷ A ∷ []) 1 }
+    ∷ record { asked = onOpen dup 1 2 [] left; answer = gives Duplication 2 2 (A ∷ []) [] 2 }
+    ∷ record { asked = onOne inv 5 11 [] right; answer = gives Unchanged 12 12 [] [] 1 }
     ∷ []
