@@ -168,7 +168,6 @@ pub record Fits32 (p : Reply) : Type 0 where
   pub alternativeSize : p .alternativeSize < 4294967296
 
 number-small : (x : Refusal) → refusalNumber x < 4294967296
-unfolding refusalNumber
 number-small BadCode = omega arith
 number-small BadWindow = omega arith
 number-small BadTarget = omega arith
@@ -186,7 +185,6 @@ number-small UtrExonBoundary = omega arith
 number-small VariantSpanOutsideSequenceBounds = omega arith
 
 class-small : (c : Class) → classNumber c < 4294967296
-unfolding classNumber
 class-small Insertion = omega arith
 class-small Duplication = omega arith
 class-small Deletion = omega arith

@@ -16,7 +16,7 @@ use Rattle.definition.specs.Bases.{reverseComplement, sameBases}
 use Rattle.definition.specs.Change.{splice}
 
 -- the paper's numbers
-unfoldable pub classNumber : Class → ℕ
+abbrev pub classNumber : Class → ℕ
 classNumber Insertion = 1
 classNumber Duplication = 2
 classNumber Deletion = 3

@@ -8,7 +8,7 @@ use Rattle.definition.specs.Answer.{classNumber}
 use Rattle.definition.specs.Verdict.{Verdict, refused, answered}
 
 -- 01's number for each refusal; 11 is reserved
-unfoldable pub refusalNumber : Refusal → ℕ
+abbrev pub refusalNumber : Refusal → ℕ
 refusalNumber BadCode = 1
 refusalNumber BadWindow = 2
 refusalNumber BadTarget = 3

@@ -1,6 +1,8 @@
 -- A request as the caller makes it: codes and numbers as they come, the tables as bytes. Assumes nothing.
 use Prim.Native.Nat.{ℕ, zero, suc}
+use mathlib.Core.Bool.{cond}
 use mathlib.Core.List.{List}
+use lib.Dec.{eqb}
 use lib.IntN.{ℤ, pos, negsuc}
 use Rattle.definition.specs.declared.Kind.{Kind}
 use Rattle.definition.specs.declared.Kind.the-variants.{Open, Transcript, Crossing}
@@ -10,6 +12,8 @@ use Rattle.definition.specs.declared.Direction.{Direction}
 use Rattle.definition.specs.declared.Direction.the-variants.{Rightward, Leftward}
 use Rattle.definition.specs.declared.Bound.{Bound}
 use Rattle.definition.specs.declared.Bound.the-variants.{Absent, At, Negative}
+use Rattle.definition.specs.declared.Coordinate.{Coordinate}
+use Rattle.definition.specs.declared.Coordinate.the-variants.{Natural, Below}
 use Rattle.definition.specs.Change.{Change, spelled, altered}
 use lib.Signed.{mag}
 
@@ -30,20 +34,18 @@ pub record Request : Type 0 where
 
 -- the codes count from 0; those past the last are refused by row 1, so what they are read as does not show
 unfoldable pub kindOf : ℕ → Kind
-kindOf zero = Open
-kindOf (suc zero) = Transcript
-kindOf (suc (suc n)) = Crossing
+kindOf code = cond (eqb code 0) Open (cond (eqb code 1) Transcript Crossing)
 
 unfoldable pub editOf : ℕ → Edit
-editOf zero = Insert
-editOf (suc zero) = Duplicate
-editOf (suc (suc zero)) = Delete
-editOf (suc (suc (suc zero))) = Replace
-editOf (suc (suc (suc (suc n)))) = Invert
+editOf code = cond (eqb code 0) Insert (cond (eqb code 1) Duplicate (cond (eqb code 2) Delete (cond (eqb code 3) Replace Invert)))
 
 unfoldable pub directionOf : ℕ → Direction
-directionOf zero = Rightward
-directionOf (suc n) = Leftward
+directionOf code = cond (eqb code 0) Rightward Leftward
+
+-- an end of a range
+unfoldable pub coordinateOf : ℤ → Coordinate
+coordinateOf (pos n) = Natural (record { 0 = n })
+coordinateOf (negsuc n) = Below
 
 -- a CDS bound: -1 is absent, any other negative number breaks a table rule
 unfoldable pub boundOf : ℤ → Bound

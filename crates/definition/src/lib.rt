@@ -29,6 +29,12 @@ pub enum Direction {
     Leftward,
 }
 
+// An end of a range as it reaches us: a position, or a number below 0.
+pub enum Coordinate {
+    Natural(Zero),
+    Below,
+}
+
 // A CDS bound as it reaches us: absent, a number, or a negative number that breaks a table rule.
 pub enum Bound {
     Absent,
