@@ -1,0 +1,7 @@
+pub mod AllBases
+pub mod Gathered
+pub mod ReverseComplement
+pub mod SameBases
+pub mod Suffix
+pub mod Unique
+pub mod Written

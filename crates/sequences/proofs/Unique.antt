@@ -1,0 +1,50 @@
+-- Each public contract allows one answer: any two that it allows for the same arguments are equal. Each theorem is about the contract as the
+-- source states it. Assumes nothing.
+use mathlib.Core.Path.{_≡_, sym, _∙_}
+use denote.Ref.{now}
+use Rattle.sequences.proofs.complement.Reads as complement
+use Rattle.sequences.proofs.all_bases.Reads as all-bases
+use Rattle.sequences.proofs.revcomp.Reads as revcomp
+use Rattle.sequences.proofs.trim_common_prefixes.Reads as trim-common-prefixes
+use Rattle.sequences.proofs.trim_common_suffixes.Reads as trim-common-suffixes
+use Rattle.sequences.proofs.after.Reads as after
+use Rattle.sequences.proofs.before_last.Reads as before-last
+use Rattle.sequences.proofs.same_bases.Reads as same-bases
+use Rattle.sequences.proofs.is_reverse_complement.Reads as is-reverse-complement
+
+-- what a contract ensures, of the arguments, the result and the parameters at exit, fixes what is seen of the last two
+abbrev pub Fixes : {L : Type 0} {A R E : L → Type 0} {S : Type 0} → ((κs : L) → R κs → E κs → S) → ((κs : L) → A κs → R κs → E κs → Type 0) → Type 0
+Fixes {L} {A} {R} {E} seen ensures =
+    (κs : L) (a : A κs) (x y : R κs) (atX atY : E κs) → ensures κs a x atX → ensures κs a y atY → seen κs x atX ≡ seen κs y atY
+
+pub complement-one : Fixes (λ κs x at. x) complement.Post
+complement-one κs a x y atX atY p q = p ∙ sym q
+
+pub all-bases-one : Fixes (λ κs x at. x) all-bases.Post
+all-bases-one κs a x y atX atY p q = p ∙ sym q
+
+-- the count, and every byte of the buffer
+pub revcomp-one-count : Fixes (λ κs x at. x) revcomp.Post
+revcomp-one-count κs a x y atX atY p q = p .0 ∙ sym (q .0)
+
+pub revcomp-one-buffer : Fixes (λ κs x at. now (at .1 .0)) revcomp.Post
+revcomp-one-buffer κs a x y atX atY p q = p .1 ∙ sym (q .1)
+
+pub trim-common-prefixes-one : Fixes (λ κs x at. x) trim-common-prefixes.Post
+trim-common-prefixes-one κs a x y atX atY p q = p ∙ sym q
+
+pub trim-common-suffixes-one : Fixes (λ κs x at. x) trim-common-suffixes.Post
+trim-common-suffixes-one κs a x y atX atY p q = p ∙ sym q
+
+-- every byte of a rest
+pub after-one : Fixes (λ κs x at. now x) after.Post
+after-one κs a x y atX atY p q = p ∙ sym q
+
+pub before-last-one : Fixes (λ κs x at. now x) before-last.Post
+before-last-one κs a x y atX atY p q = p ∙ sym q
+
+pub same-bases-one : Fixes (λ κs x at. x) same-bases.Post
+same-bases-one κs a x y atX atY p q = p ∙ sym q
+
+pub is-reverse-complement-one : Fixes (λ κs x at. x) is-reverse-complement.Post
+is-reverse-complement-one κs a x y atX atY p q = p ∙ sym q
