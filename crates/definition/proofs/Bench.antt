@@ -7,13 +7,13 @@ use Rattle.definition.specs.Request.{kindOf, editOf, directionOf, boundO
 use Rattle.definition.specs.Piece.{little, boundInTarget, boundsInOrder, tablesHold, piecesOf, wholePiece, cutAt, exonPiece, transcriptPiece, pieceFor}
 use Rattle.definition.specs.Place.{rightEdge, furthest, isPure, placeOf, stoppedByBase, probesOf}
 use Rattle.definition.specs.Answer.{copyBeside, copyStart, namedInsertion, isInversion, namedReplacement, named, replacedOrUnchanged, firstBaseRule, hasLastBaseRule, lastBaseRule, leavesTarget}
-use Rattle.definition.specs.Bench.{Answered, benchRows, furtherRows}
+use Rattle.definition.specs.Bench.{AnsweredSo, benchRows, furtherRows}
 use Rattle.definition.specs.Verdict.{verdict, longestTarget, longestAllele, longestWindow, answerRoom, readAlternative, badCode, badWindow, badTarget, badBase, outOfBounds, badInsertion, tooLong, badAllele, noRoom, badTables, targetRows, changeRows, requestRows, rows, replacedAtOnce, answeredAtOnce, pieceOf, namedAt, normalAt, normal, answerAtOnce, answerMoved, answeredOr16, movedIn, afterPiece, afterShortcuts, answerIn, refusedOr}
 
-pub bench : Answered benchRows
+pub bench : AnsweredSo benchRows
 unfolding benchRows isBase complement reverseComplement lcs spelled altered referenceOf trimmedFront trimmedEnd trimmedBy trimmed kindOf editOf directionOf boundOf startOf endOf changeOf little boundInTarget boundsInOrder tablesHold piecesOf wholePiece cutAt exonPiece transcriptPiece pieceFor rightEdge furthest isPure placeOf stoppedByBase probesOf copyBeside copyStart namedInsertion isInversion namedReplacement named replacedOrUnchanged firstBaseRule hasLastBaseRule lastBaseRule leavesTarget verdict longestTarget longestAllele longestWindow answerRoom readAlternative badCode badWindow badTarget badBase outOfBounds badInsertion tooLong badAllele noRoom badTables targetRows changeRows requestRows rows replacedAtOnce answeredAtOnce pieceOf namedAt normalAt normal answerAtOnce answerMoved answeredOr16 movedIn afterPiece afterShortcuts answerIn refusedOr
 bench = refl
 
-pub bench-further : Answered furtherRows
+pub bench-further : AnsweredSo furtherRows
 unfolding furtherRows isBase complement reverseComplement lcs spelled altered referenceOf trimmedFront trimmedEnd trimmedBy trimmed kindOf editOf directionOf boundOf startOf endOf changeOf little boundInTarget boundsInOrder tablesHold piecesOf wholePiece cutAt exonPiece transcriptPiece pieceFor rightEdge furthest isPure placeOf stoppedByBase probesOf copyBeside copyStart namedInsertion isInversion namedReplacement named replacedOrUnchanged firstBaseRule hasLastBaseRule lastBaseRule leavesTarget verdict longestTarget longestAllele longestWindow answerRoom readAlternative badCode badWindow badTarget badBase outOfBounds badInsertion tooLong badAllele noRoom badTables targetRows changeRows requestRows rows replacedAtOnce answeredAtOnce pieceOf namedAt normalAt normal answerAtOnce answerMoved answeredOr16 movedIn afterPiece afterShortcuts answerIn refusedOr
 bench-further = refl

@@ -15,8 +15,8 @@ pub record BenchRow : Type 0 where
   pub answer : Verdict
 
 -- what the definition answers to the rows' requests is what the rows say
-abbrev pub Answered : List BenchRow → Type 0
-Answered table = map (λ (row : BenchRow). verdict (row .asked)) table ≡ map (λ (row : BenchRow). row .answer) table
+abbrev pub AnsweredSo : List BenchRow → Type 0
+AnsweredSo table = map (λ (row : BenchRow). verdict (row .asked)) table ≡ map (λ (row : BenchRow). row .answer) table
 
 abbrev pub A : ℕ
 A = 65

@@ -1,9 +1,12 @@
 -- What the caller sees of a verdict: the paper's numbers, and both answer buffers. Assumes nothing.
 use Prim.Native.Nat.{ℕ}
-use mathlib.Core.List.{List, _++_}
+use mathlib.Core.Path.{_≡_}
+use mathlib.Core.List.{List, [], _++_}
 use lib.ListN.{length, drop}
 use Rattle.definition.specs.declared.Refusal.{Refusal}
 use Rattle.definition.specs.declared.Refusal.the-variants.{BadCode, BadWindow, BadTarget, BadBase, CoordinatesOutOfBounds, BadInsertion, TooLong, BadAllele, NoRoom, BadTables, ExonNotFoundForStart, ExonNotFoundForEnd, ExonIntronBoundary, UtrExonBoundary, VariantSpanOutsideSequenceBounds}
+use Rattle.definition.specs.declared.Outcome.{Outcome}
+use Rattle.definition.specs.declared.Outcome.the-variants.{Answer, Refuse}
 use Rattle.definition.specs.Answer.{classNumber}
 use Rattle.definition.specs.Verdict.{Verdict, refused, answered}
 
@@ -64,3 +67,31 @@ reply referenceBuffer alternativeBuffer (answered a) = record {
   referenceBuffer = written (a .what .reference) referenceBuffer;
   alternativeBuffer = written (a .what .alternative) alternativeBuffer;
 }
+
+-- what the code hands on of a verdict: its numbers, and the alleles that it lays at the front of the lent buffers, none for a refusal
+unfoldable pub outcomeOf : Verdict → Outcome
+outcomeOf (refused x) = Refuse x
+outcomeOf (answered a) =
+    Answer
+    (record {
+      class = a .what .class;
+      start = record { 0 = a .what .start };
+      end = record { 0 = a .what .end };
+      probes = a .probes;
+      «reference_size» = length (a .what .reference);
+      «alternative_size» = length (a .what .alternative);
+    })
+
+unfoldable pub referenceOut : Verdict → List ℕ
+referenceOut (refused x) = []
+referenceOut (answered a) = a .what .reference
+
+unfoldable pub alternativeOut : Verdict → List ℕ
+alternativeOut (refused x) = []
+alternativeOut (answered a) = a .what .alternative
+
+-- a verdict is met by what comes back and by both buffers, as they were and as they are
+pub record Met (v : Verdict) (r : Outcome) (reference reference′ alternative alternative′ : List ℕ) : Type 0 where
+  pub numbers : r ≡ outcomeOf v
+  pub referenceBuffer : reference′ ≡ written (referenceOut v) reference
+  pub alternativeBuffer : alternative′ ≡ written (alternativeOut v) alternative

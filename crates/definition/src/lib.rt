@@ -94,3 +94,20 @@ pub enum Class {
     Inversion,
     Unchanged,
 }
+
+// The numbers of an answer: what it is called, its range with both ends in it, the pairs of bases compared in the move, and how many bases
+// each allele has. The alleles themselves stand in the lent buffers.
+pub struct Answered {
+    pub class: Class,
+    pub start: One,
+    pub end: One,
+    pub probes: usize,
+    pub reference_size: usize,
+    pub alternative_size: usize,
+}
+
+// What comes back of a request.
+pub enum Outcome {
+    Answer(Answered),
+    Refuse(Refusal),
+}

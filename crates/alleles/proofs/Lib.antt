@@ -1,0 +1,7 @@
+pub mod Laws
+pub mod Laid
+pub mod Ends
+pub mod Stores
+pub mod Moves
+pub mod Trims
+pub mod Unique
