@@ -165,7 +165,7 @@ module _ (piece : Piece) (target after : List ℕ) where
             rw (t, u) (ap oneMore (rest g) ∙ one-more q g)
         go false false t u rest = rw (t, u) (ended q true 1 (ends-at-base direction q e i t u) refl)
 
-is-pure : (t : Trimmed) → (t .referenceSize ≡ 0) ⊎ (t .alternativeSize ≡ 0) → isPure t ≡ true
+pub is-pure : (t : Trimmed) → (t .referenceSize ≡ 0) ⊎ (t .alternativeSize ≡ 0) → isPure t ≡ true
 unfolding isPure
 is-pure t (inl e) = rw (eq-eqb (t .referenceSize) 0 e)
 is-pure t (inr e) = rw (eq-eqb (t .alternativeSize) 0 e) (or-yes (eqb (t .referenceSize) 0))

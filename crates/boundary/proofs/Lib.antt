@@ -1,0 +1,5 @@
+pub mod Pairs
+pub mod Order
+pub mod Rules
+pub mod Within
+pub mod Unique
