@@ -162,11 +162,11 @@ answered-16 report (some n) a e = (n, refl, cc)
 
 -- how a request was answered, with the piece found for it: at once, or by its normal change in the piece
 pub data Route (r : Request) (found : PieceFound) (a : Answer) : Type 0 where
-  atOnce : (n : Named) → answeredAtOnce (editOf (r .editCode)) r ≡ some n → answerAtOnce r n ≡ a → Route r found a
+  atOnce : (n : Named) → answeredAtOnce (editOf (r .editCode)) r ≡ some n → answerAtOnce n ≡ a → Route r found a
   moved : (p : Piece) (n : Named) → found ≡ InPiece p → normalOf r p ≡ some n → reportOf r p n ≡ a → Route r found a
 
 -- either way the answer holds what was named
-pub at-once-what : (r : Request) (n : Named) (a : Answer) → answerAtOnce r n ≡ a → n ≡ a .what
+pub at-once-what : (r : Request) (n : Named) (a : Answer) → answerAtOnce n ≡ a → n ≡ a .what
 unfolding answerAtOnce
 at-once-what r n a e = ap (λ (x : Answer). x .what) e
 
@@ -174,7 +174,7 @@ pub moved-what : (r : Request) (p : Piece) (n : Named) (a : Answer) → reportOf
 unfolding answerMoved
 moved-what r p n a e = ap (λ (x : Answer). x .what) e
 
-after-piece : (r : Request) (found : PieceFound) (a : Answer) → afterPiece r found ≡ answered a → Route r found a
+after-piece : (r : Request) (found : PieceFound) (a : Answer) → afterPiece (directionOf (r .directionCode)) (kindOf (r .kindCode)) (r .target) (changeOf r) found ≡ answered a → Route r found a
 unfolding afterPiece movedIn
 after-piece r (NoPiece n) a e = never e
 after-piece r (InPiece p) a e =
@@ -182,7 +182,7 @@ after-piece r (InPiece p) a e =
     moved p (x .0) refl (x .1) (x .2)
 
 after-shortcuts : (r : Request) (found : PieceFound) (a : Answer) (o : Option Named) → answeredAtOnce (editOf (r .editCode)) r ≡ o
-    → afterShortcuts r found o ≡ answered a → Route r found a
+    → afterShortcuts (directionOf (r .directionCode)) (kindOf (r .kindCode)) (r .target) (changeOf r) found o ≡ answered a → Route r found a
 unfolding afterShortcuts
 after-shortcuts r found a none i e = after-piece r found a e
 after-shortcuts r found a (some n) i e = atOnce n i (cc)

@@ -127,7 +127,7 @@ or-16 report direction kind piece target q reference alternative = go (leavesTar
     go true e = rw e
     go false e = rw e
 
-after-piece : (r : Request) (found : PieceFound) → refusalOf (afterPiece r found) ≡ orElse (pieceRefusal found) (firstGiven (spanRows r found))
+after-piece : (r : Request) (found : PieceFound) → refusalOf (afterPiece (directionOf (r .directionCode)) (kindOf (r .kindCode)) (r .target) (changeOf r) found) ≡ orElse (pieceRefusal found) (firstGiven (spanRows r found))
 unfolding afterPiece spanRows movedIn normal normalAt
 after-piece r (NoPiece x) = refl
 after-piece r (InPiece p) =
@@ -138,8 +138,8 @@ after-piece r (InPiece p) =
     or-16 (answerMoved direction p (r .target) after t) direction (kindOf (r .kindCode)) p (r .target) q
     (slice q (q + t .referenceSize) (r .target)) (slice q (q + t .alternativeSize) after)
 
-at-once : (r : Request) (found : PieceFound) (o : Option Named) (later : List Row) → refusalOf (afterPiece r found) ≡ firstGiven later
-    → refusalOf (afterShortcuts r found o) ≡ firstGiven (unlessAtOnce o later)
+at-once : (r : Request) (found : PieceFound) (o : Option Named) (later : List Row) → refusalOf (afterPiece (directionOf (r .directionCode)) (kindOf (r .kindCode)) (r .target) (changeOf r) found) ≡ firstGiven later
+    → refusalOf (afterShortcuts (directionOf (r .directionCode)) (kindOf (r .kindCode)) (r .target) (changeOf r) found o) ≡ firstGiven (unlessAtOnce o later)
 unfolding afterShortcuts unlessAtOnce
 at-once r found none later e = e
 at-once r found (some n) later e = refl
@@ -157,7 +157,7 @@ refusal-first r =
     let asked : List Row = pieceRows kind (piecesOf (r .exonBytes)) (boundOf (r .cdsStart)) (boundOf (r .cdsEnd)) (startOf r) (endOf r) in
     let span : List Row = spanRows r (pieceOf r) in
     let o : Option Named = answeredAtOnce (editOf (r .editCode)) r in
-    let moved : refusalOf (afterPiece r (pieceOf r)) ≡ firstGiven (asked ++ span) =
+    let moved : refusalOf (afterPiece (directionOf (r .directionCode)) (kindOf (r .kindCode)) (r .target) (changeOf r) (pieceOf r)) ≡ firstGiven (asked ++ span) =
     after-piece r (pieceOf r)
     ∙ ap (λ (x : Option Refusal). orElse x (firstGiven span)) (piece-refusal kind (r .exonBytes) (boundOf (r .cdsStart)) (boundOf (r .cdsEnd)) (startOf r) (endOf r))
     ∙ sym (first-append asked span) in

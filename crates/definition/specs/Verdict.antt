@@ -1,5 +1,6 @@
 -- The whole: what is answered to a request. Rows 1 to 10, the two requests answered at once, rows 12 to 15, the answer, row 16.
 -- The window decides nothing but row 2. Assumes nothing.
+use Rattle.definition.specs.declared.Bound.{Bound}
 use Prim.Native.Nat.{ℕ, _+_, _-_}
 use mathlib.Core.Bool.{Bool, false, cond, not, _&&_, _||_}
 use mathlib.Core.List.{List, [], _∷_, _++_}
@@ -57,41 +58,70 @@ readAlternative Delete alt = []
 readAlternative Replace alt = alt
 readAlternative Invert alt = []
 
+-- Row 1
+abbrev pub unlisted : ℕ → ℕ → ℕ → Bool
+unlisted kind edit direction = ltb 2 kind || ltb 4 edit || ltb 1 direction
+
 unfoldable pub badCode : Request → Bool
-badCode r = ltb 2 (r .kindCode) || ltb 4 (r .editCode) || ltb 1 (r .directionCode)
+badCode r = unlisted (r .kindCode) (r .editCode) (r .directionCode)
+
+-- Row 2
+abbrev pub windowOutside : ℕ → Bool
+windowOutside window = eqb window 0 || ltb longestWindow window
 
 unfoldable pub badWindow : Request → Bool
-badWindow r = eqb (r .window) 0 || ltb longestWindow (r .window)
+badWindow r = windowOutside (r .window)
+
+-- Rows 3 and 4
+abbrev pub sizeOutside : ℕ → Bool
+sizeOutside size = eqb size 0 || ltb longestTarget size
 
 unfoldable pub badTarget : Request → Bool
-badTarget r = eqb (length (r .target)) 0 || ltb longestTarget (length (r .target))
+badTarget r = sizeOutside (length (r .target))
 
 unfoldable pub badBase : Request → Bool
 badBase r = not (allBases (r .target))
 
+-- Row 5
 unfoldable pub outOfBounds : Request → Bool
 outOfBounds r = ltZ (r .rangeStart) (pos 0) || leZ (r .rangeEnd) (r .rangeStart) || ltZ (pos (length (r .target))) (r .rangeEnd)
 
+-- Row 6
+abbrev pub misfits : Edit → ℕ → ℕ → List ℕ → Bool
+misfits Insert start end alternative = not (eqb end (start + 2)) || eqb (length alternative) 0
+misfits Duplicate start end alternative = false
+misfits Delete start end alternative = false
+misfits Replace start end alternative = false
+misfits Invert start end alternative = false
+
 unfoldable pub badInsertion : Edit → Request → Bool
-badInsertion Insert r = not (eqb (endOf r) (startOf r + 2)) || eqb (length (r .alternative)) 0
-badInsertion Duplicate r = false
-badInsertion Delete r = false
-badInsertion Replace r = false
-badInsertion Invert r = false
+badInsertion edit r = misfits edit (startOf r) (endOf r) (r .alternative)
+
+-- Rows 7 and 8
+abbrev pub exceeds : Edit → ℕ → ℕ → List ℕ → Bool
+exceeds edit start end alternative = ltb longestAllele (end - start) || ltb longestAllele (length (readAlternative edit alternative))
 
 unfoldable pub tooLong : Request → Bool
-tooLong r = ltb longestAllele (endOf r - startOf r) || ltb longestAllele (length (readAlternative (editOf (r .editCode)) (r .alternative)))
+tooLong r = exceeds (editOf (r .editCode)) (startOf r) (endOf r) (r .alternative)
 
 unfoldable pub badAllele : Request → Bool
 badAllele r = not (allBases (readAlternative (editOf (r .editCode)) (r .alternative)))
 
+-- Row 9
+abbrev pub cramped : ℕ → ℕ → Bool
+cramped reference alternative = ltb reference answerRoom || ltb alternative answerRoom
+
 unfoldable pub noRoom : Request → Bool
-noRoom r = ltb (r .referenceRoom) answerRoom || ltb (r .alternativeRoom) answerRoom
+noRoom r = cramped (r .referenceRoom) (r .alternativeRoom)
+
+-- Row 10
+abbrev pub tablesBroken : Kind → List ℕ → Bound → Bound → ℕ → Bool
+tablesBroken Open bytes cdsStart cdsEnd size = false
+tablesBroken Transcript bytes cdsStart cdsEnd size = not (tablesHold bytes cdsStart cdsEnd size)
+tablesBroken Crossing bytes cdsStart cdsEnd size = false
 
 unfoldable pub badTables : Kind → Request → Bool
-badTables Open r = false
-badTables Transcript r = not (tablesHold (r .exonBytes) (boundOf (r .cdsStart)) (boundOf (r .cdsEnd)) (length (r .target)))
-badTables Crossing r = false
+badTables kind r = tablesBroken kind (r .exonBytes) (boundOf (r .cdsStart)) (boundOf (r .cdsEnd)) (length (r .target))
 
 -- a row of the table of refusals, and whether it is given if no row before it is
 pub record Row : Type 0 where
@@ -134,12 +164,15 @@ replacedAtOnce start end ref alt =
     (some (record { class = Replacement; start = start + 1; end = start + 1; reference = ref; alternative = alt }))
     none)
 
+abbrev pub shortcut : Edit → List ℕ → ℕ → ℕ → List ℕ → Option Named
+shortcut Insert target start end alternative = none
+shortcut Duplicate target start end alternative = none
+shortcut Delete target start end alternative = none
+shortcut Replace target start end alternative = replacedAtOnce start end (slice start end target) alternative
+shortcut Invert target start end alternative = none
+
 unfoldable pub answeredAtOnce : Edit → Request → Option Named
-answeredAtOnce Insert r = none
-answeredAtOnce Duplicate r = none
-answeredAtOnce Delete r = none
-answeredAtOnce Replace r = replacedAtOnce (startOf r) (endOf r) (slice (startOf r) (endOf r) (r .target)) (r .alternative)
-answeredAtOnce Invert r = none
+answeredAtOnce edit r = shortcut edit (r .target) (startOf r) (endOf r) (r .alternative)
 
 -- the piece that a request's range lies in, or rows 12 to 15
 unfoldable pub pieceOf : Request → PieceFound
@@ -161,8 +194,8 @@ normal direction kind piece target after t =
     normalAt direction kind piece target after (placeOf direction piece target after t) (t .referenceSize) (t .alternativeSize)
 
 -- what is reported besides: of a request answered at once, and of a change that was moved
-unfoldable pub answerAtOnce : Request → Named → Answer
-answerAtOnce r n = record { what = n; probes = 0 }
+unfoldable pub answerAtOnce : Named → Answer
+answerAtOnce n = record { what = n; probes = 0 }
 
 unfoldable pub answerMoved : Direction → Piece → List ℕ → List ℕ → Trimmed → Named → Answer
 answerMoved direction piece target after t n =
@@ -178,17 +211,18 @@ movedIn direction kind piece target c =
     let after = altered target c in
     answeredOr16 (answerMoved direction piece target after t) (normal direction kind piece target after t)
 
-unfoldable pub afterPiece : Request → PieceFound → Verdict
-afterPiece r (NoPiece x) = refused x
-afterPiece r (InPiece p) = movedIn (directionOf (r .directionCode)) (kindOf (r .kindCode)) p (r .target) (changeOf r)
+unfoldable pub afterPiece : Direction → Kind → List ℕ → Change → PieceFound → Verdict
+afterPiece direction kind target c (NoPiece x) = refused x
+afterPiece direction kind target c (InPiece p) = movedIn direction kind p target c
 
-unfoldable pub afterShortcuts : Request → PieceFound → Option Named → Verdict
-afterShortcuts r found (some n) = answered (answerAtOnce r n)
-afterShortcuts r found none = afterPiece r found
+unfoldable pub afterShortcuts : Direction → Kind → List ℕ → Change → PieceFound → Option Named → Verdict
+afterShortcuts direction kind target c found (some n) = answered (answerAtOnce n)
+afterShortcuts direction kind target c found none = afterPiece direction kind target c found
 
 -- what a request that passes the rows is answered, with the piece that was found for it
 unfoldable pub answerIn : Request → PieceFound → Verdict
-answerIn r found = afterShortcuts r found (answeredAtOnce (editOf (r .editCode)) r)
+answerIn r found =
+    afterShortcuts (directionOf (r .directionCode)) (kindOf (r .kindCode)) (r .target) (changeOf r) found (answeredAtOnce (editOf (r .editCode)) r)
 
 unfoldable pub refusedOr : Option Refusal → Verdict → Verdict
 refusedOr none v = v

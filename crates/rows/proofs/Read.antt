@@ -1,0 +1,57 @@
+-- Row 5 is read off the two ends of the range; rows 7 and 8 off whether the alternative is read. Assumes nothing.
+use mathlib.Core.Path.{_≡_, refl, sym, ap, _∙_}
+use mathlib.Core.Bool.{Bool, true, false, cond, not, _&&_, _||_, true≢false, false≢true}
+use mathlib.Core.List.{List}
+use Prim.Native.Nat.{ℕ, _-_, zero-le}
+use native.Mathlib.Omega.{arith}
+use borrow.Author.Tests.{le-ltb}
+use lib.Dec.{leb, ltb}
+use lib.IntN.{ℤ, pos, negsuc}
+use lib.ListN.{length}
+use Rattle.definition.specs.declared.Edit.{Edit}
+use Rattle.definition.specs.declared.Edit.the-variants.{Insert, Duplicate, Delete, Replace, Invert}
+use Rattle.definition.specs.Bases.{allBases}
+use Rattle.definition.specs.Request.{coordinateOf}
+use Rattle.definition.specs.Verdict.{longestAllele, readAlternative, exceeds}
+use Rattle.rows.specs.Range.{rangeOf, rangeRead, reads}
+
+not-below : (a : ℕ) → ltb a 0 ≡ false
+not-below a = le-ltb a 0 zero-le
+
+pub range-read : (start end : ℤ) (size : ℕ) → rangeOf (coordinateOf start) (coordinateOf end) size ≡ rangeRead start end size
+unfolding coordinateOf rangeRead
+range-read (pos a) (pos b) size = go (leb b a) refl
+  where
+    go : (c : Bool) → leb b a ≡ c → rangeOf (coordinateOf (pos a)) (coordinateOf (pos b)) size ≡ rangeRead (pos a) (pos b) size
+    go true e = rw (not-below a, e)
+    go false e = rw (not-below a, e)
+range-read (pos a) (negsuc b) size = rw (not-below a)
+range-read (negsuc a) (pos b) size = refl
+range-read (negsuc a) (negsuc b) size = refl
+
+-- an alternative that is not read is as long as none
+pub exceeds-read : (edit : Edit) (start end : ℕ) (alternative : List ℕ)
+    → (ltb 1024 (end - start) || (reads edit && ltb 1024 (length alternative))) ≡ exceeds edit start end alternative
+unfolding readAlternative longestAllele
+exceeds-read Insert start end alternative = refl
+exceeds-read Duplicate start end alternative = refl
+exceeds-read Delete start end alternative = refl
+exceeds-read Replace start end alternative = refl
+exceeds-read Invert start end alternative = refl
+
+-- and holds no byte that is no base
+pub bases-read : (edit : Edit) (alternative : List ℕ) → reads edit ≡ true → allBases alternative ≡ allBases (readAlternative edit alternative)
+unfolding readAlternative
+bases-read Insert alternative e = refl
+bases-read Duplicate alternative e = absurd (false≢true e)
+bases-read Delete alternative e = absurd (false≢true e)
+bases-read Replace alternative e = refl
+bases-read Invert alternative e = absurd (false≢true e)
+
+pub bases-not-read : (edit : Edit) (alternative : List ℕ) → reads edit ≡ false → true ≡ allBases (readAlternative edit alternative)
+unfolding readAlternative
+bases-not-read Insert alternative e = absurd (true≢false e)
+bases-not-read Duplicate alternative e = refl
+bases-not-read Delete alternative e = refl
+bases-not-read Replace alternative e = absurd (true≢false e)
+bases-not-read Invert alternative e = refl

@@ -1,0 +1,17 @@
+-- `rows::too_long` meets its contract: an alternative that is not read is as long as none. Assumes nothing.
+use Rattle.rows.proofs.Read.{exceeds-read}
+use borrow.Author.Needs.{needs}
+use Rattle.rows.proofs.too_long.Statement.{statement}
+use Rattle.rows.proofs.too_long.Tie as tie
+
+reads-alternative-requires : tie.Need-reads-alternative-requires
+reads-alternative-requires c κs = search needs
+
+sub-result : tie.Need-sub-result
+sub-result c = search needs
+
+returns : tie.Need-returns
+returns c = rw (c .before .before .reads-alternative .ensures) (exceeds-read _ _ _ _)
+
+pub too-long-spec : {M : Type 1} → statement M
+too-long-spec = tie.close (tie.spec reads-alternative-requires sub-result returns)

@@ -1,0 +1,74 @@
+-- `shuffle::normalize_alleles_3_to_5` meets its contract: what it trims is what the definition trims. Assumes nothing.
+use Prim.Native.Nat.{_-_}
+use native.Mathlib.Omega.{arith}
+use lib.ListN.{take, drop}
+use lib.Seq.{slice}
+use denote.Ref.{now}
+use Rattle.definition.proofs.Prefixes.{lcs-le-left, lcs-le-right}
+use Rattle.definition.proofs.Places.{from-edge}
+use Rattle.shuffle.proofs.Parts.{lent-part}
+use Rattle.shuffle.proofs.Trimming.{back-first, front-second}
+use borrow.Author.Needs.{needs}
+use Rattle.shuffle.proofs.normalize_alleles_3_to_5.Statement.{statement}
+use Rattle.shuffle.proofs.normalize_alleles_3_to_5.Tie as tie
+use Rattle.shuffle.proofs.normalize_alleles_3_to_5.Reads as reads
+use Rattle.shuffle.proofs.normalize_alleles_3_to_5.Lts as lts
+use Rattle.sequences.proofs.before_last.Reads as before-last-reads
+use Rattle.sequences.proofs.trim_common_prefixes.Reads as trim-common-prefixes-reads
+use Rattle.sequences.proofs.trim_common_suffixes.Reads as trim-common-suffixes-reads
+use Rattle.shuffle.proofs.move_trimmed.Reads as move-trimmed-reads
+
+sub-reference : tie.Need-sub-reference
+sub-reference c = search needs
+
+part-reference-start : tie.Need-part-reference-start
+part-reference-start c = search needs
+
+part-reference-end : tie.Need-part-reference-end
+part-reference-end c =
+    let s = c .before .before in
+    omega (arith, s .pre .order, from-edge (s .args .piece) (s .args .target .now) (s .pre .right))
+
+trim-common-suffixes-requires : tie.Need-trim-common-suffixes-requires
+trim-common-suffixes-requires c κs = search needs
+
+before-last-requires : tie.Need-before-last-requires
+before-last-requires c κs =
+    let s = c .before .before .before .before in
+    omega (arith, c .trim-common-suffixes .ensures, lcs-le-left (take (s .args .to .0 - s .args .from .0) (drop (s .args .from .0) (s .args .target .now))) (s .args .inserted .now))
+
+before-last-requires-2 : tie.Need-before-last-requires-2
+before-last-requires-2 c κs =
+    let s = c .before .before .before .before .before in
+    omega (arith, c .before .trim-common-suffixes .ensures, lcs-le-right (take (s .args .to .0 - s .args .from .0) (drop (s .args .from .0) (s .args .target .now))) (s .args .inserted .now))
+
+trim-common-prefixes-requires : tie.Need-trim-common-prefixes-requires
+trim-common-prefixes-requires c κs = search needs
+
+move-trimmed-requires : tie.Need-move-trimmed-requires
+move-trimmed-requires c κs =
+    let s = c .before .before .before .before .before .before .before in
+    let lent = lent-part (s .args .from .0) (s .args .to .0) (s .args .target .now) (s .pre .order) (from-edge (s .args .piece) (s .args .target .now) (s .pre .right) .1) in (
+      s .pre,
+      (
+        front-second (take (s .args .to .0 - s .args .from .0) (drop (s .args .from .0) (s .args .target .now))) (slice (s .args .from .0) (s .args .to .0) (s .args .target .now)) (s .args .inserted .now) (now (c .before .before .before-last .result)) (now (c .before .before-last2 .result)) (c .trim-common-prefixes .result) (c .before .before .before .trim-common-suffixes .result) lent (c .before .before .before .trim-common-suffixes .ensures) (c .before .before .before-last .ensures) (c .before .before-last2 .ensures) (c .trim-common-prefixes .ensures),
+        back-first (take (s .args .to .0 - s .args .from .0) (drop (s .args .from .0) (s .args .target .now))) (slice (s .args .from .0) (s .args .to .0) (s .args .target .now)) (s .args .inserted .now) (now (c .before .before .before-last .result)) (now (c .before .before-last2 .result)) (c .trim-common-prefixes .result) (c .before .before .before .trim-common-suffixes .result) lent (c .before .before .before .trim-common-suffixes .ensures),
+      ),
+    )
+
+returns : tie.Need-returns
+returns c = search needs
+
+pub normalize-alleles-3-to-5-spec : {M : Type 1} → statement M
+normalize-alleles-3-to-5-spec =
+    tie.close
+    (tie.spec
+    sub-reference
+    part-reference-start
+    part-reference-end
+    trim-common-suffixes-requires
+    before-last-requires
+    before-last-requires-2
+    trim-common-prefixes-requires
+    move-trimmed-requires
+    returns)

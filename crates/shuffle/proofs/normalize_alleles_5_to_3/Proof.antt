@@ -1,0 +1,74 @@
+-- `shuffle::normalize_alleles_5_to_3` meets its contract: what it trims is what the definition trims. Assumes nothing.
+use Prim.Native.Nat.{_-_}
+use native.Mathlib.Omega.{arith}
+use lib.ListN.{take, drop}
+use lib.Seq.{slice}
+use denote.Ref.{now}
+use Rattle.definition.proofs.Prefixes.{lcp-le-left, lcp-le-right}
+use Rattle.definition.proofs.Places.{from-edge}
+use Rattle.shuffle.proofs.Parts.{lent-part}
+use Rattle.shuffle.proofs.Trimming.{front-first, back-second}
+use borrow.Author.Needs.{needs}
+use Rattle.shuffle.proofs.normalize_alleles_5_to_3.Statement.{statement}
+use Rattle.shuffle.proofs.normalize_alleles_5_to_3.Tie as tie
+use Rattle.shuffle.proofs.normalize_alleles_5_to_3.Reads as reads
+use Rattle.shuffle.proofs.normalize_alleles_5_to_3.Lts as lts
+use Rattle.sequences.proofs.after.Reads as after-reads
+use Rattle.sequences.proofs.trim_common_prefixes.Reads as trim-common-prefixes-reads
+use Rattle.sequences.proofs.trim_common_suffixes.Reads as trim-common-suffixes-reads
+use Rattle.shuffle.proofs.move_trimmed.Reads as move-trimmed-reads
+
+sub-reference : tie.Need-sub-reference
+sub-reference c = search needs
+
+part-reference-start : tie.Need-part-reference-start
+part-reference-start c = search needs
+
+part-reference-end : tie.Need-part-reference-end
+part-reference-end c =
+    let s = c .before .before in
+    omega (arith, s .pre .order, from-edge (s .args .piece) (s .args .target .now) (s .pre .right))
+
+trim-common-prefixes-requires : tie.Need-trim-common-prefixes-requires
+trim-common-prefixes-requires c κs = search needs
+
+after-requires : tie.Need-after-requires
+after-requires c κs =
+    let s = c .before .before .before .before in
+    omega (arith, c .trim-common-prefixes .ensures, lcp-le-left (take (s .args .to .0 - s .args .from .0) (drop (s .args .from .0) (s .args .target .now))) (s .args .inserted .now))
+
+after-requires-2 : tie.Need-after-requires-2
+after-requires-2 c κs =
+    let s = c .before .before .before .before .before in
+    omega (arith, c .before .trim-common-prefixes .ensures, lcp-le-right (take (s .args .to .0 - s .args .from .0) (drop (s .args .from .0) (s .args .target .now))) (s .args .inserted .now))
+
+trim-common-suffixes-requires : tie.Need-trim-common-suffixes-requires
+trim-common-suffixes-requires c κs = search needs
+
+move-trimmed-requires : tie.Need-move-trimmed-requires
+move-trimmed-requires c κs =
+    let s = c .before .before .before .before .before .before .before in
+    let lent = lent-part (s .args .from .0) (s .args .to .0) (s .args .target .now) (s .pre .order) (from-edge (s .args .piece) (s .args .target .now) (s .pre .right) .1) in (
+      s .pre,
+      (
+        front-first (take (s .args .to .0 - s .args .from .0) (drop (s .args .from .0) (s .args .target .now))) (slice (s .args .from .0) (s .args .to .0) (s .args .target .now)) (s .args .inserted .now) (now (c .before .before .after .result)) (now (c .before .after2 .result)) (c .before .before .before .trim-common-prefixes .result) (c .trim-common-suffixes .result) lent (c .before .before .before .trim-common-prefixes .ensures),
+        back-second (take (s .args .to .0 - s .args .from .0) (drop (s .args .from .0) (s .args .target .now))) (slice (s .args .from .0) (s .args .to .0) (s .args .target .now)) (s .args .inserted .now) (now (c .before .before .after .result)) (now (c .before .after2 .result)) (c .before .before .before .trim-common-prefixes .result) (c .trim-common-suffixes .result) lent (c .before .before .before .trim-common-prefixes .ensures) (c .before .before .after .ensures) (c .before .after2 .ensures) (c .trim-common-suffixes .ensures),
+      ),
+    )
+
+returns : tie.Need-returns
+returns c = search needs
+
+pub normalize-alleles-5-to-3-spec : {M : Type 1} → statement M
+normalize-alleles-5-to-3-spec =
+    tie.close
+    (tie.spec
+    sub-reference
+    part-reference-start
+    part-reference-end
+    trim-common-prefixes-requires
+    after-requires
+    after-requires-2
+    trim-common-suffixes-requires
+    move-trimmed-requires
+    returns)
