@@ -4,12 +4,10 @@ use mathlib.Core.Bool.{true, false}
 use Prim.Native.Nat.{ℕ, zero, suc}
 use native.Mathlib.Omega.{arith}
 use lib.IntN.{ℤ, pos, negsuc, natAbs}
-use lib.Dec.{T, ltb}
+use lib.Dec.{T}
 use lib.Signed.{ltZ, nonNeg}
 use borrow.Author.Tests.{ltb-true, ltb-false}
-use Rattle.definition.specs.declared.Coordinate.{Coordinate}
 use Rattle.definition.specs.declared.Coordinate.the-variants.{Natural, Below}
-use Rattle.definition.specs.declared.Bound.{Bound}
 use Rattle.definition.specs.declared.Bound.the-variants.{Absent, At, Negative}
 use Rattle.definition.specs.Request.{coordinateOf, boundOf}
 

@@ -15,3 +15,4 @@ pub mod Sizes
 pub mod Refusals
 pub mod Answers
 pub mod Numbers
+pub mod Fixes

@@ -1,7 +1,8 @@
 -- Each public contract allows one answer: any two that it allows for the same arguments are equal. Each theorem is about the contract as the
 -- source states it. Assumes nothing.
-use mathlib.Core.Path.{_≡_, sym, _∙_}
+use mathlib.Core.Path.{sym, _∙_}
 use denote.Ref.{now}
+use Rattle.definition.proofs.Fixes.{Fixes}
 use Rattle.sequences.proofs.complement.Reads as complement
 use Rattle.sequences.proofs.all_bases.Reads as all-bases
 use Rattle.sequences.proofs.revcomp.Reads as revcomp
@@ -11,11 +12,6 @@ use Rattle.sequences.proofs.after.Reads as after
 use Rattle.sequences.proofs.before_last.Reads as before-last
 use Rattle.sequences.proofs.same_bases.Reads as same-bases
 use Rattle.sequences.proofs.is_reverse_complement.Reads as is-reverse-complement
-
--- what a contract ensures, of the arguments, the result and the parameters at exit, fixes what is seen of the last two
-abbrev pub Fixes : {L : Type 0} {A R E : L → Type 0} {S : Type 0} → ((κs : L) → R κs → E κs → S) → ((κs : L) → A κs → R κs → E κs → Type 0) → Type 0
-Fixes {L} {A} {R} {E} seen ensures =
-    (κs : L) (a : A κs) (x y : R κs) (atX atY : E κs) → ensures κs a x atX → ensures κs a y atY → seen κs x atX ≡ seen κs y atY
 
 pub complement-one : Fixes (λ κs x at. x) complement.Post
 complement-one κs a x y atX atY p q = p ∙ sym q

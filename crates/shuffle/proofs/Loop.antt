@@ -1,25 +1,22 @@
 -- The loop over windows, for both directions: its invariant holds at the start, a window keeps it, and what it leaves at the end is what is
 -- promised. Assumes nothing.
 use mathlib.Core.Path.{_≡_, refl, sym, ap, _∙_, subst}
-use mathlib.Core.Bool.{cond}
 use mathlib.Core.Logic.{_⊎_}
 use mathlib.Core.List.{List}
 use Prim.Native.Nat.{ℕ, _+_, _-_, _%_, _≤_, _<_, min}
 use native.Mathlib.Omega.{arith}
 use lib.ListN.{length}
-use lib.Seq.{slice}
 use Rattle.definition.specs.declared.Direction.{Direction}
 use Rattle.definition.specs.declared.Direction.the-variants.{Rightward, Leftward}
 use Rattle.definition.specs.declared.Piece.{Piece}
 use Rattle.definition.specs.Change.{splice}
 use Rattle.definition.specs.Piece.{pieceFrom}
-use Rattle.definition.specs.Place.{rightEdge, stoppedByBase}
+use Rattle.definition.specs.Place.{rightEdge}
 use Rattle.alleles.specs.declared.Allele.{Allele}
-use Rattle.alleles.specs.Held.{window, held, Placed, Good}
+use Rattle.alleles.specs.Held.{window, held}
 use Rattle.alleles.proofs.Laws.{window-length}
-use Rattle.shuffle.specs.declared.Shuffled.{Shuffled}
 use Rattle.shuffle.specs.declared.Stepped.{Stepped}
-use Rattle.shuffle.specs.Shuffle.{SteppedRight, SteppedLeft, Poised, Part, Slid}
+use Rattle.shuffle.specs.Shuffle.{SteppedRight, SteppedLeft, Poised, Slid}
 use Rattle.shuffle.proofs.Standing.{extra, added}
 use Rattle.shuffle.proofs.Slides.{Sliding, AtEdge, ended, starts, sizes, slides-right, slides-left}
 

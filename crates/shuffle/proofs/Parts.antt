@@ -4,7 +4,7 @@ use mathlib.Core.Path.{_≡_, sym, ap, ap₂, _∙_}
 use mathlib.Core.List.{List, _++_}
 use Prim.Native.Nat.{ℕ, _+_, _-_, _≤_}
 use native.Mathlib.Omega.{arith}
-use lib.ListN.{length, take, drop, length-take, length-drop}
+use lib.ListN.{length, take, drop}
 use lib.Seq.{slice, length-slice, take-take, take-add, drop-drop, drop-at, length-take-le}
 use Rattle.definition.proofs.Places.{slice-rest}
 

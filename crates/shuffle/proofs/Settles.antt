@@ -2,12 +2,11 @@
 -- Over both directions. Assumes nothing.
 use mathlib.Core.Path.{_≡_, refl, sym, ap, ap₂, _∙_, subst}
 use mathlib.Core.Logic.{_⊎_, inl, inr, ⊎-elim}
-use mathlib.Core.Bool.{Bool, true, false, cond, _||_}
+use mathlib.Core.Bool.{false, cond}
 use mathlib.Core.List.{List}
-use Prim.Native.Nat.{ℕ, _+_, _-_, _≤_, _<_, min, max}
+use Prim.Native.Nat.{ℕ, _+_, _-_, _≤_, _<_, min}
 use native.Mathlib.Omega.{arith}
-use borrow.Author.Tests.{eq-eqb, ne-eqb}
-use lib.Dec.{eqb}
+use borrow.Author.Tests.{ne-eqb}
 use lib.ListN.{length, take, drop}
 use lib.Seq.{slice, length-slice}
 use Rattle.definition.specs.declared.Direction.{Direction}
@@ -21,7 +20,7 @@ use Rattle.definition.proofs.Trims.{trim-facts, length-reference}
 use Rattle.definition.proofs.Final.{Pure, pure, trimmed-inside}
 use Rattle.definition.proofs.Walks.{is-pure}
 use Rattle.alleles.specs.declared.Allele.{Allele}
-use Rattle.alleles.specs.Held.{held, Good, Holds}
+use Rattle.alleles.specs.Held.{held, Holds}
 use Rattle.shuffle.specs.declared.Shuffled.{Shuffled}
 use Rattle.shuffle.proofs.Parts.{lent-part}
 use Rattle.shuffle.proofs.Slides.{inserted-part}

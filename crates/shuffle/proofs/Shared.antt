@@ -3,10 +3,10 @@ use mathlib.Core.Path.{_≡_, sym, ap, ap₂, _∙_}
 use mathlib.Core.List.{List, _++_, append-assoc}
 use Prim.Native.Nat.{ℕ, _+_, _-_, _≤_, min}
 use native.Mathlib.Omega.{arith}
-use lib.ListN.{length, take, drop, length-take, length-drop, take-append-drop}
+use lib.ListN.{length, take, drop, length-drop, take-append-drop}
 use lib.Seq.{slice, length-slice, length-take-le}
 use Rattle.definition.specs.Prefix.{lcp, lcs}
-use Rattle.definition.proofs.Prefixes.{lcp-take, lcp-after, lcp-before, lcs-drop, lcs-before, lcs-after, lcp-le-left, lcp-le-right, lcs-le-left, lcs-le-right}
+use Rattle.definition.proofs.Prefixes.{lcp-take, lcp-after, lcp-before, lcs-drop, lcs-before, lcs-after}
 use Rattle.definition.proofs.Places.{slice-rest}
 
 -- a sequence is what stands before a part, the part, and what stands after it

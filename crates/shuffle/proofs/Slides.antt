@@ -1,16 +1,15 @@
 -- Windows in a row, over both directions: where the move starts, what a window leaves, and that it ends at the furthest place with the
 -- probes of the definition. Assumes nothing.
-use mathlib.Core.Path.{_≡_, refl, sym, ap, ap₂, _∙_, subst}
+use mathlib.Core.Path.{_≡_, refl, sym, ap, _∙_}
 use mathlib.Core.Logic.{_⊎_, inl, inr, ⊎-elim}
-use mathlib.Core.Bool.{Bool, true, false, cond}
+use mathlib.Core.Bool.{true, cond}
 use mathlib.Core.List.{List, _++_}
 use Prim.Native.Nat.{ℕ, _+_, _-_, _≤_, _<_, min, max}
 use native.Mathlib.Omega.{arith}
-use native.Mathlib.Nat.{add-zero, le-refl}
+use native.Mathlib.Nat.{le-refl}
 use borrow.Author.Tests.{ltb-true, lt-ltb, le-ltb}
-use lib.Dec.{ltb}
 use lib.ListN.{length, take, drop, length-append, length-drop}
-use lib.Seq.{slice, take-at, drop-at, take-append-le, drop-append-le, length-take-le, take-length, drop-append-add}
+use lib.Seq.{slice, take-append-le, drop-append-le, length-take-le, take-length, drop-append-add}
 use Rattle.definition.specs.declared.Direction.{Direction}
 use Rattle.definition.specs.declared.Direction.the-variants.{Rightward, Leftward}
 use Rattle.definition.specs.declared.Piece.{Piece}

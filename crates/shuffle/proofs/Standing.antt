@@ -1,13 +1,13 @@
 -- A change with an allele empty, at one of its equivalent places, and what one window of the move does to it. Assumes nothing.
-use mathlib.Core.Path.{_≡_, refl, sym, ap, ap₂, _∙_}
+use mathlib.Core.Path.{_≡_, sym, ap, ap₂, _∙_}
 use mathlib.Core.List.{List, _++_}
-use Prim.Native.Nat.{ℕ, _+_, _-_, _≤_, _<_, min, max}
+use Prim.Native.Nat.{ℕ, _+_, _-_, _≤_, min}
 use native.Mathlib.Omega.{arith}
 use lib.ListN.{length, take, drop}
-use lib.Seq.{slice, length-slice}
+use lib.Seq.{slice}
 use Rattle.definition.specs.Prefix.{lcp, lcs}
-use Rattle.definition.proofs.Prefixes.{lcp-take, lcs-drop, lcp-le-left, lcp-le-right, lcs-le-left, lcs-le-right}
-use Rattle.shuffle.proofs.Parts.{counted-part, joined-parts, part-of-part, backward-part, onward-part}
+use Rattle.definition.proofs.Prefixes.{lcp-take, lcs-drop, lcp-le-left, lcp-le-right}
+use Rattle.shuffle.proofs.Parts.{counted-part, joined-parts, backward-part, onward-part}
 use Rattle.shuffle.proofs.Shared.{lcp-parts, lcs-parts}
 
 -- of two lengths, the bases by which the first is longer, and the shorter of the two

@@ -1,13 +1,13 @@
 -- One window of the move, in each direction: from an equivalent place to another, as far as the two sequences are alike and no further than
 -- the window. Assumes nothing.
-use mathlib.Core.Path.{_≡_, refl, sym, ap, ap₂, _∙_, subst}
+use mathlib.Core.Path.{_≡_, sym, ap, ap₂, _∙_, subst}
 use mathlib.Core.List.{List, _++_}
-use Prim.Native.Nat.{ℕ, _+_, _-_, _≤_, _<_, min, max}
+use Prim.Native.Nat.{ℕ, _+_, _-_, _≤_, min}
 use native.Mathlib.Omega.{arith}
 use lib.ListN.{length, take, drop}
 use lib.Seq.{slice, length-slice}
 use Rattle.definition.specs.Prefix.{lcp, lcs}
-use Rattle.definition.proofs.Prefixes.{lcp-le-left, lcp-le-right, lcs-le-left, lcs-le-right}
+use Rattle.definition.proofs.Prefixes.{lcp-le-left, lcp-le-right}
 use Rattle.alleles.specs.Windows.{WindowedRight, WindowedLeft}
 use Rattle.shuffle.proofs.Standing.{Stands, extra, added, shorter, shared-right, reference-onward, alternative-onward, shared-left, reference-back, alternative-back}
 

@@ -7,12 +7,6 @@ use Rattle.definition.proofs.Places.{from-edge}
 use Rattle.shuffle.proofs.Settles.{trims, filled-stays, filled-poised, filled-settles, poised-below, poised-above, slid-below, slid-above}
 use Rattle.shuffle.proofs.move_trimmed.Statement.{statement}
 use Rattle.shuffle.proofs.move_trimmed.Tie as tie
-use Rattle.shuffle.proofs.move_trimmed.Reads as reads
-use Rattle.shuffle.proofs.move_trimmed.Lts as lts
-use Rattle.alleles.proofs.Allele.filled.Reads as filled-reads
-use Rattle.shuffle.proofs.least.Reads as least-reads
-use Rattle.shuffle.proofs.slide_left.Reads as slide-left-reads
-use Rattle.shuffle.proofs.slide_right.Reads as slide-right-reads
 
 -- src/lib.rt:211:18
 below : (a b n : ℕ) → n ≡ min a b → n ≤ b

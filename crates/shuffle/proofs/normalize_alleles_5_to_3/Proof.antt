@@ -11,12 +11,6 @@ use Rattle.shuffle.proofs.Trimming.{front-first, back-second}
 use borrow.Author.Needs.{needs}
 use Rattle.shuffle.proofs.normalize_alleles_5_to_3.Statement.{statement}
 use Rattle.shuffle.proofs.normalize_alleles_5_to_3.Tie as tie
-use Rattle.shuffle.proofs.normalize_alleles_5_to_3.Reads as reads
-use Rattle.shuffle.proofs.normalize_alleles_5_to_3.Lts as lts
-use Rattle.sequences.proofs.after.Reads as after-reads
-use Rattle.sequences.proofs.trim_common_prefixes.Reads as trim-common-prefixes-reads
-use Rattle.sequences.proofs.trim_common_suffixes.Reads as trim-common-suffixes-reads
-use Rattle.shuffle.proofs.move_trimmed.Reads as move-trimmed-reads
 
 sub-reference : tie.Need-sub-reference
 sub-reference c = search needs

@@ -8,10 +8,6 @@ use borrow.Author.Needs.{needs}
 use Rattle.shuffle.proofs.Parts.{lent-part}
 use Rattle.shuffle.proofs.normalize_alleles_left_inner.Statement.{statement}
 use Rattle.shuffle.proofs.normalize_alleles_left_inner.Tie as tie
-use Rattle.shuffle.proofs.normalize_alleles_left_inner.Reads as reads
-use Rattle.shuffle.proofs.normalize_alleles_left_inner.Lts as lts
-use Rattle.alleles.proofs.window_left.Reads as window-left-reads
-use Rattle.shuffle.proofs.least.Reads as least-reads
 
 -- src/lib.rt:96:28
 sub-least : tie.Need-sub-least

@@ -7,10 +7,6 @@ use lib.Seq.{length-slice}
 use Rattle.shuffle.proofs.Parts.{lent-part}
 use Rattle.shuffle.proofs.normalize_alleles_right_inner.Statement.{statement}
 use Rattle.shuffle.proofs.normalize_alleles_right_inner.Tie as tie
-use Rattle.shuffle.proofs.normalize_alleles_right_inner.Reads as reads
-use Rattle.shuffle.proofs.normalize_alleles_right_inner.Lts as lts
-use Rattle.alleles.proofs.window_right.Reads as window-right-reads
-use Rattle.shuffle.proofs.least.Reads as least-reads
 
 -- src/lib.rt:62:16
 add-from : tie.Need-add-from

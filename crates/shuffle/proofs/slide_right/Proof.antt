@@ -1,7 +1,7 @@
 -- `shuffle::slide_right` meets its contract: windows in a row keep the change on its way. Assumes nothing.
-use mathlib.Core.Path.{_≡_, refl}
+use mathlib.Core.Path.{refl}
 use mathlib.Core.Logic.{inl, inr, ⊎-elim}
-use Prim.Native.Nat.{ℕ, _+_, _-_, _<_, _≤_}
+use Prim.Native.Nat.{_+_, _-_, _<_, _≤_}
 use native.Mathlib.Omega.{arith}
 use borrow.Author.Tests.{ltb-true, ltb-false}
 use Rattle.definition.specs.declared.Direction.the-variants.{Rightward}
@@ -12,9 +12,6 @@ use Rattle.shuffle.proofs.Slides.{right-count}
 use Rattle.shuffle.proofs.Loop.{Turning, edge-is, turning-starts, turns-right, turned}
 use Rattle.shuffle.proofs.slide_right.Statement.{statement}
 use Rattle.shuffle.proofs.slide_right.Tie as tie
-use Rattle.shuffle.proofs.slide_right.Reads as reads
-use Rattle.shuffle.proofs.slide_right.Lts as lts
-use Rattle.shuffle.proofs.normalize_alleles_right_inner.Reads as normalize-alleles-right-inner-reads
 
 abbrev Inv-loop : tie.InvT-loop
 Inv-loop target edge start most r₀ a₀ rn an rh₀ ah₀ place₀ differing₀ r a rh ah place differing =

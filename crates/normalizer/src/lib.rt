@@ -1,0 +1,551 @@
+// `normalize`: rows 1 to 10 in order, the two requests that are answered at once, the piece, the move and the result. Nothing is left to the
+// caller to check. `normalize_checked` is for a caller that has checked the target once and asks often.
+ghost use mathlib.Core.Path.{_≡_};
+ghost use mathlib.Core.Bool.{true, false};
+ghost use mathlib.Core.List.{[]};
+ghost use Prim.Native.Nat.{_+_, _-_, _<_, _≤_};
+ghost use lib.ListN.{length};
+ghost use lib.Seq.{slice};
+ghost use Rattle.definition.specs.Bases.{allBases};
+ghost use Rattle.definition.specs.declared.Edit.the-variants.{Invert};
+ghost use Rattle.definition.specs.Change.{spelled};
+ghost use Rattle.definition.specs.Piece.{pieceFor};
+ghost use Rattle.definition.specs.Verdict.{answered, answerAtOnce, movedIn, afterPiece, afterShortcuts, shortcut, sizeOutside, verdict};
+ghost use Rattle.definition.specs.Reply.{Met};
+ghost use Rattle.shuffle.specs.Shuffle.{Asked};
+ghost use Rattle.results.specs.Asked.{Room};
+ghost use Rattle.normalizer.specs.Asked.{replacedWay, wayOf, inPlace, Ranged, Read, Passed, asked, rangeVerdict};
+use definition::Answered;
+use definition::Bound;
+use definition::Class;
+use definition::Direction;
+use definition::Edit;
+use definition::Kind;
+use definition::Outcome;
+use definition::Piece;
+use definition::PieceFound;
+use definition::Refusal;
+use definition::Zero;
+use rows::Range;
+
+// How a request that passes the rows is answered: at once, as a replacement by the same bases or of one base by one other, or later, in its
+// piece.
+pub enum Way {
+    Same,
+    Single,
+    Later,
+}
+
+// The way of a request. Only a replacement is answered at once.
+fn way_of(edit: Edit, target: &[u8], start: Zero, end: Zero, alternative: &[u8]) -> Way
+    requires { ⌜ (start .0 < end .0) × (end .0 ≤ length (now target)) ⌝ }
+    ensures { λ r. ⌜ r ≡ wayOf edit (now (target .entry)) (start .0) (end .0) (now (alternative .entry)) ⌝ }
+{
+    match edit {
+        Edit::Insert => Way::Later,
+        Edit::Duplicate => Way::Later,
+        Edit::Delete => Way::Later,
+        Edit::Replace => replaced(target, start, end, alternative),
+        Edit::Invert => Way::Later,
+    }
+}
+
+// The way of a replacement.
+fn replaced(target: &[u8], start: Zero, end: Zero, alternative: &[u8]) -> Way
+    requires { ⌜ (start .0 < end .0) × (end .0 ≤ length (now target)) ⌝ }
+    ensures { λ r. ⌜ r ≡ replacedWay (slice (start .0) (end .0) (now (target .entry))) (now (alternative .entry)) ⌝ }
+{
+    let from = start.0;
+    let to = end.0;
+    let reference = &target[from..to];
+    if sequences::same_bases(reference, alternative) {
+        return Way::Same;
+    }
+    if to - from != 1 {
+        return Way::Later;
+    }
+    if alternative.len() != 1 {
+        return Way::Later;
+    }
+    Way::Single
+}
+
+// The change that a request spells, moved in its piece and named there.
+fn moved(
+    target: &[u8],
+    kind: Kind,
+    direction: Direction,
+    piece: Piece,
+    from: Zero,
+    to: Zero,
+    inserted: &[u8],
+    window: usize,
+    reference_out: &mut [u8],
+    alternative_out: &mut [u8],
+) -> Outcome
+    requires { ⌜ Asked piece (now target) (record { from = from .0; to = to .0; inserted = now inserted }) window ⌝ }
+    requires { ⌜ (1 ≤ length (now target)) × (length (now target) ≤ 65535) ⌝ }
+    requires { ⌜ Room (now «reference_out») (now «alternative_out») ⌝ }
+    ensures { λ r. ⌜ Met
+        (movedIn direction kind piece (now (target .entry)) (record { from = from .0; to = to .0; inserted = now (inserted .entry) }))
+        r (now («reference_out» .entry)) (now («reference_out» .exit)) (now («alternative_out» .entry)) (now («alternative_out» .exit)) ⌝ }
+{
+    match direction {
+        Direction::Rightward => {
+            let s = shuffle::normalize_alleles_5_to_3(target, piece, from, to, inserted, window);
+            let size = s.reference.count;
+            let alternative = s.alternative;
+            let head = alternative.head;
+            let count = alternative.count;
+            results::build_result(
+                target,
+                kind,
+                direction,
+                piece,
+                s.place,
+                s.probes,
+                size,
+                &alternative.bytes,
+                head,
+                count,
+                reference_out,
+                alternative_out,
+            )
+        }
+        Direction::Leftward => {
+            let s = shuffle::normalize_alleles_3_to_5(target, piece, from, to, inserted, window);
+            let size = s.reference.count;
+            let alternative = s.alternative;
+            let head = alternative.head;
+            let count = alternative.count;
+            results::build_result(
+                target,
+                kind,
+                direction,
+                piece,
+                s.place,
+                s.probes,
+                size,
+                &alternative.bytes,
+                head,
+                count,
+                reference_out,
+                alternative_out,
+            )
+        }
+    }
+}
+
+// An inversion: the reverse complement of the range takes its place.
+fn inverted(
+    target: &[u8],
+    kind: Kind,
+    direction: Direction,
+    piece: Piece,
+    start: Zero,
+    end: Zero,
+    window: usize,
+    reference_out: &mut [u8],
+    alternative_out: &mut [u8],
+) -> Outcome
+    requires { ⌜ Ranged piece (now target) (start .0) (end .0) window ⌝ }
+    requires { ⌜ Room (now «reference_out») (now «alternative_out») ⌝ }
+    ensures { λ r. ⌜ Met
+        (movedIn direction kind piece (now (target .entry)) (spelled Invert (now (target .entry)) (start .0) (end .0) []))
+        r (now («reference_out» .entry)) (now («reference_out» .exit)) (now («alternative_out» .entry)) (now («alternative_out» .exit)) ⌝ }
+{
+    let from = start.0;
+    let to = end.0;
+    let mut buffer = [0u8; 1024];
+    let size = sequences::revcomp(&target[from..to], &mut buffer);
+    moved(
+        target,
+        kind,
+        direction,
+        piece,
+        start,
+        end,
+        &buffer[..size],
+        window,
+        reference_out,
+        alternative_out,
+    )
+}
+
+// The change that each edit spells. An insertion goes in behind its first flanking base, a duplication's copy behind its range.
+fn spell(
+    target: &[u8],
+    kind: Kind,
+    direction: Direction,
+    piece: Piece,
+    start: Zero,
+    end: Zero,
+    edit: Edit,
+    alternative: &[u8],
+    window: usize,
+    reference_out: &mut [u8],
+    alternative_out: &mut [u8],
+) -> Outcome
+    requires { ⌜ Ranged piece (now target) (start .0) (end .0) window ⌝ }
+    requires { ⌜ Read edit (start .0) (end .0) (now alternative) ⌝ }
+    requires { ⌜ Room (now «reference_out») (now «alternative_out») ⌝ }
+    ensures { λ r. ⌜ Met
+        (movedIn direction kind piece (now (target .entry)) (spelled edit (now (target .entry)) (start .0) (end .0) (now (alternative .entry))))
+        r (now («reference_out» .entry)) (now («reference_out» .exit)) (now («alternative_out» .entry)) (now («alternative_out» .exit)) ⌝ }
+{
+    match edit {
+        Edit::Insert => {
+            let gap = Zero(start.0 + 1);
+            moved(
+                target,
+                kind,
+                direction,
+                piece,
+                gap,
+                gap,
+                alternative,
+                window,
+                reference_out,
+                alternative_out,
+            )
+        }
+        Edit::Duplicate => {
+            let from = start.0;
+            let to = end.0;
+            moved(
+                target,
+                kind,
+                direction,
+                piece,
+                end,
+                end,
+                &target[from..to],
+                window,
+                reference_out,
+                alternative_out,
+            )
+        }
+        Edit::Delete => moved(
+            target,
+            kind,
+            direction,
+            piece,
+            start,
+            end,
+            &target[..0],
+            window,
+            reference_out,
+            alternative_out,
+        ),
+        Edit::Replace => moved(
+            target,
+            kind,
+            direction,
+            piece,
+            start,
+            end,
+            alternative,
+            window,
+            reference_out,
+            alternative_out,
+        ),
+        Edit::Invert => inverted(
+            target,
+            kind,
+            direction,
+            piece,
+            start,
+            end,
+            window,
+            reference_out,
+            alternative_out,
+        ),
+    }
+}
+
+// An answer given at once: the range as it is, with its bases and the alternative.
+fn answer_in_place(
+    class: Class,
+    target: &[u8],
+    start: Zero,
+    end: Zero,
+    alternative: &[u8],
+    reference_out: &mut [u8],
+    alternative_out: &mut [u8],
+) -> Outcome
+    requires { ⌜ (start .0 < end .0) × (end .0 ≤ length (now target)) × (length (now target) ≤ 65535) ⌝ }
+    requires { ⌜ (end .0 - start .0 ≤ 1024) × (length (now alternative) ≤ 1024) ⌝ }
+    requires { ⌜ Room (now «reference_out») (now «alternative_out») ⌝ }
+    ensures { λ r. ⌜ Met
+        (answered (answerAtOnce (inPlace class (now (target .entry)) (start .0) (end .0) (now (alternative .entry)))))
+        r (now («reference_out» .entry)) (now («reference_out» .exit)) (now («alternative_out» .entry)) (now («alternative_out» .exit)) ⌝ }
+{
+    let from = start.0;
+    let to = end.0;
+    results::write_part(&target[from..to], reference_out);
+    results::write_part(alternative, alternative_out);
+    Outcome::Answer(Answered {
+        class: class,
+        start: codes::one_based(start),
+        end: codes::before_gap(end),
+        probes: 0,
+        reference_size: to - from,
+        alternative_size: alternative.len(),
+    })
+}
+
+// A request that is not answered at once: rows 12 to 15, and the change in its piece.
+fn answer_in_piece(
+    target: &[u8],
+    kind: Kind,
+    exons: &[u8],
+    cds_start: Bound,
+    cds_end: Bound,
+    start: Zero,
+    end: Zero,
+    edit: Edit,
+    alternative: &[u8],
+    direction: Direction,
+    window: usize,
+    reference_out: &mut [u8],
+    alternative_out: &mut [u8],
+) -> Outcome
+    requires { ⌜ Passed (now target) kind (now exons) (start .0) (end .0) edit (now alternative) window ⌝ }
+    requires { ⌜ Room (now «reference_out») (now «alternative_out») ⌝ }
+    ensures { λ r. ⌜ Met
+        (afterPiece direction kind (now (target .entry)) (spelled edit (now (target .entry)) (start .0) (end .0) (now (alternative .entry)))
+        (pieceFor kind (now (exons .entry)) «cds_start» «cds_end» (start .0) (end .0)))
+        r (now («reference_out» .entry)) (now («reference_out» .exit)) (now («alternative_out» .entry)) (now («alternative_out» .exit)) ⌝ }
+{
+    match boundary::piece_for(kind, exons, cds_start, cds_end, start, end) {
+        PieceFound::InPiece(piece) => spell(
+            target,
+            kind,
+            direction,
+            piece,
+            start,
+            end,
+            edit,
+            alternative,
+            window,
+            reference_out,
+            alternative_out,
+        ),
+        PieceFound::NoPiece(refusal) => Outcome::Refuse(refusal),
+    }
+}
+
+// A request that passes rows 1 to 10.
+fn answer_passed(
+    target: &[u8],
+    kind: Kind,
+    exons: &[u8],
+    cds_start: Bound,
+    cds_end: Bound,
+    start: Zero,
+    end: Zero,
+    edit: Edit,
+    alternative: &[u8],
+    direction: Direction,
+    window: usize,
+    reference_out: &mut [u8],
+    alternative_out: &mut [u8],
+) -> Outcome
+    requires { ⌜ Passed (now target) kind (now exons) (start .0) (end .0) edit (now alternative) window ⌝ }
+    requires { ⌜ Room (now «reference_out») (now «alternative_out») ⌝ }
+    ensures { λ r. ⌜ Met
+        (afterShortcuts direction kind (now (target .entry)) (spelled edit (now (target .entry)) (start .0) (end .0) (now (alternative .entry)))
+        (pieceFor kind (now (exons .entry)) «cds_start» «cds_end» (start .0) (end .0))
+        (shortcut edit (now (target .entry)) (start .0) (end .0) (now (alternative .entry))))
+        r (now («reference_out» .entry)) (now («reference_out» .exit)) (now («alternative_out» .entry)) (now («alternative_out» .exit)) ⌝ }
+{
+    let way = way_of(edit, target, start, end, alternative);
+    match way {
+        Way::Same => answer_in_place(
+            Class::Unchanged,
+            target,
+            start,
+            end,
+            alternative,
+            reference_out,
+            alternative_out,
+        ),
+        Way::Single => answer_in_place(
+            Class::Replacement,
+            target,
+            start,
+            end,
+            alternative,
+            reference_out,
+            alternative_out,
+        ),
+        Way::Later => answer_in_piece(
+            target,
+            kind,
+            exons,
+            cds_start,
+            cds_end,
+            start,
+            end,
+            edit,
+            alternative,
+            direction,
+            window,
+            reference_out,
+            alternative_out,
+        ),
+    }
+}
+
+// Rows 6 to 10, of a range that passes row 5; then the answer.
+fn normalize_range(
+    target: &[u8],
+    kind: Kind,
+    exons: &[u8],
+    cds_start: Bound,
+    cds_end: Bound,
+    start: Zero,
+    end: Zero,
+    edit: Edit,
+    alternative: &[u8],
+    direction: Direction,
+    window: usize,
+    reference_out: &mut [u8],
+    alternative_out: &mut [u8],
+) -> Outcome
+    requires { ⌜ (start .0 < end .0) × (end .0 ≤ length (now target)) × (length (now target) ≤ 65535) × (1 ≤ window) × (window ≤ 1024) ⌝ }
+    ensures { λ r. ⌜ Met
+        (rangeVerdict (now (target .entry)) kind (now (exons .entry)) «cds_start» «cds_end» (start .0) (end .0) edit (now (alternative .entry)) direction
+        (length (now («reference_out» .entry))) (length (now («alternative_out» .entry))))
+        r (now («reference_out» .entry)) (now («reference_out» .exit)) (now («alternative_out» .entry)) (now («alternative_out» .exit)) ⌝ }
+{
+    if rows::bad_insertion(edit, start, end, alternative) {
+        return Outcome::Refuse(Refusal::BadInsertion);
+    }
+    if rows::too_long(edit, start, end, alternative) {
+        return Outcome::Refuse(Refusal::TooLong);
+    }
+    if rows::bad_allele(edit, alternative) {
+        return Outcome::Refuse(Refusal::BadAllele);
+    }
+    if rows::no_room(reference_out.len(), alternative_out.len()) {
+        return Outcome::Refuse(Refusal::NoRoom);
+    }
+    if rows::bad_tables(kind, exons, cds_start, cds_end, target.len()) {
+        return Outcome::Refuse(Refusal::BadTables);
+    }
+    answer_passed(
+        target,
+        kind,
+        exons,
+        cds_start,
+        cds_end,
+        start,
+        end,
+        edit,
+        alternative,
+        direction,
+        window,
+        reference_out,
+        alternative_out,
+    )
+}
+
+// A request over a target that passes rows 3 and 4, for a caller that has checked it once.
+pub fn normalize_checked(
+    target: &[u8],
+    kind: u32,
+    exons: &[u8],
+    cds_start: i64,
+    cds_end: i64,
+    start: i32,
+    end: i32,
+    edit: u32,
+    alternative: &[u8],
+    direction: u32,
+    window: u32,
+    reference_out: &mut [u8],
+    alternative_out: &mut [u8],
+) -> Outcome
+    requires { ⌜ (sizeOutside (length (now target)) ≡ false) × (allBases (now target) ≡ true) ⌝ }
+    ensures { λ r. ⌜ Met
+        (verdict (asked (now (target .entry)) kind (now (exons .entry)) «cds_start» «cds_end» start end edit (now (alternative .entry)) direction window
+        (length (now («reference_out» .entry))) (length (now («alternative_out» .entry)))))
+        r (now («reference_out» .entry)) (now («reference_out» .exit)) (now («alternative_out» .entry)) (now («alternative_out» .exit)) ⌝ }
+{
+    if rows::bad_code(kind, edit, direction) {
+        return Outcome::Refuse(Refusal::BadCode);
+    }
+    if rows::bad_window(window) {
+        return Outcome::Refuse(Refusal::BadWindow);
+    }
+    let read = rows::range_within(start, end, target.len());
+    match read {
+        Range::Outside => Outcome::Refuse(Refusal::CoordinatesOutOfBounds),
+        Range::Within(from, to) => normalize_range(
+            target,
+            codes::kind_of(kind),
+            exons,
+            codes::bound_of(cds_start),
+            codes::bound_of(cds_end),
+            from,
+            to,
+            codes::edit_of(edit),
+            alternative,
+            codes::direction_of(direction),
+            window as usize,
+            reference_out,
+            alternative_out,
+        ),
+    }
+}
+
+// Any request gets an answer or one of the refusals, exactly when its row says; a refusal touches no buffer.
+pub fn normalize(
+    target: &[u8],
+    kind: u32,
+    exons: &[u8],
+    cds_start: i64,
+    cds_end: i64,
+    start: i32,
+    end: i32,
+    edit: u32,
+    alternative: &[u8],
+    direction: u32,
+    window: u32,
+    reference_out: &mut [u8],
+    alternative_out: &mut [u8],
+) -> Outcome
+    ensures { λ r. ⌜ Met
+        (verdict (asked (now (target .entry)) kind (now (exons .entry)) «cds_start» «cds_end» start end edit (now (alternative .entry)) direction window
+        (length (now («reference_out» .entry))) (length (now («alternative_out» .entry)))))
+        r (now («reference_out» .entry)) (now («reference_out» .exit)) (now («alternative_out» .entry)) (now («alternative_out» .exit)) ⌝ }
+{
+    if rows::bad_code(kind, edit, direction) {
+        return Outcome::Refuse(Refusal::BadCode);
+    }
+    if rows::bad_window(window) {
+        return Outcome::Refuse(Refusal::BadWindow);
+    }
+    if rows::bad_target(target.len()) {
+        return Outcome::Refuse(Refusal::BadTarget);
+    }
+    if !sequences::all_bases(target) {
+        return Outcome::Refuse(Refusal::BadBase);
+    }
+    normalize_checked(
+        target,
+        kind,
+        exons,
+        cds_start,
+        cds_end,
+        start,
+        end,
+        edit,
+        alternative,
+        direction,
+        window,
+        reference_out,
+        alternative_out,
+    )
+}

@@ -1,0 +1,10 @@
+pub mod Tests
+pub mod Compared
+pub mod Inverted
+pub mod Parts
+pub mod Copies
+pub mod Names
+pub mod Rules
+pub mod Anchors
+pub mod Verdicts
+pub mod Unique

@@ -1,0 +1,3 @@
+//! Stand-in for the mapper.
+
+pub mod variant;
