@@ -1,5 +1,4 @@
 pub mod Laws
-pub mod Laid
 pub mod Ends
 pub mod Stores
 pub mod Moves

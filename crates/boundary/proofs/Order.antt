@@ -8,15 +8,12 @@ use native.Mathlib.Omega.{arith}
 use borrow.Author.Tests.{eqb-true, leb-true, ltb-true, lt-leb, le-leb, lt-ltb, le-ltb}
 use lib.Dec.{leb, ltb}
 use lib.ListN.{drop}
+use Rattle.definition.proofs.Tests.{and-false}
 use Rattle.definition.specs.declared.Exon.{Exon}
 use Rattle.definition.specs.declared.ExonFound.the-variants.{Holding, NoExon}
 use Rattle.definition.specs.Piece.{exonsInOrder, exonHolding}
 use Rattle.definition.proofs.Tests.{and-true}
 use Rattle.boundary.specs.InOrder.{InOrder}
-
-pub and-false : (a : Bool) → (a && false) ≡ false
-and-false true = refl
-and-false false = refl
 
 -- the tests at the next exon of a table, which stand for the whole rest
 module _ (size before : ℕ) (x : Exon) (xs l : List Exon) (next : l ≡ x ∷ xs) where

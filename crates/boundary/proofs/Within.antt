@@ -29,7 +29,8 @@ use Rattle.definition.specs.Request.{Request, boundOf}
 use Rattle.definition.specs.Verdict.{badTables}
 use Rattle.definition.proofs.Pieces.{Holds}
 use Rattle.boundary.specs.InOrder.{InOrder, ReadInOrder}
-use Rattle.boundary.proofs.Order.{and-false, exon-within}
+use Rattle.boundary.proofs.Order.{exon-within}
+use Rattle.definition.proofs.Tests.{and-false}
 
 -- the exons of a table that passes row 10 stand in order up to the target's end
 module _ (bytes : List ℕ) (cdsStart cdsEnd : Bound) (size : ℕ) (holds : tablesHold bytes cdsStart cdsEnd size ≡ true) where

@@ -16,3 +16,5 @@ pub mod Refusals
 pub mod Answers
 pub mod Numbers
 pub mod Fixes
+pub mod Laid
+pub mod Parts

@@ -27,6 +27,7 @@ use Rattle.definition.specs.Request.{Request, directionOf, kindOf, bound
 use Rattle.definition.specs.Piece.{piecesOf, exonHolding, exonPiece, cutAt, transcriptPiece, pieceFor}
 use Rattle.definition.specs.Answer.{Named, leavesTarget}
 use Rattle.definition.specs.Verdict.{Verdict, refused, answered, Row, firstGiven, verdict, refusedOr, answerIn, afterShortcuts, afterPiece, movedIn, normal, normalAt, namedAt, pieceOf, answeredOr16, Answer, answeredAtOnce, rows, answerMoved}
+use Rattle.definition.proofs.Tests.{and-false}
 use Rattle.definition.specs.Demand1.{missing, differ, onBothSides, pieceRows, spanRows, unlessAtOnce, table, noneGiven, FirstSaid, Demand1}
 
 -- the first of two that is there
@@ -77,11 +78,7 @@ cut-refusal (At c) start end (InPiece p) = go (leb end c) (leb c start) refl ref
   where
     go : (a b : Bool) → leb end c ≡ a → leb c start ≡ b
         → pieceRefusal (cutAt (At c) start end (InPiece p)) ≡ when (ltb start c && ltb c end) UtrExonBoundary
-    go true b e f = rw (e, le-ltb c end (leb-true end c e)) (and-no (ltb start c))
-      where
-        and-no : (a : Bool) → none ≡ when (a && false) UtrExonBoundary
-        and-no true = refl
-        and-no false = refl
+    go true b e f = rw (e, le-ltb c end (leb-true end c e), and-false (ltb start c))
     go false true e f = rw (e, f, le-ltb start c (leb-true c start f))
     go false false e f = rw (e, f, lt-ltb c end (leb-false end c e), lt-ltb start c (leb-false c start f))
 

@@ -1,6 +1,6 @@
 -- One base replaced by one other is answered at once as it would be inside a piece. Assumes nothing.
 use mathlib.Core.Path.{_≡_, refl, sym, ap, _∙_}
-use mathlib.Core.Bool.{Bool, true, false, _&&_}
+use mathlib.Core.Bool.{false}
 use mathlib.Core.List.{List, [], _∷_, _++_, append-assoc}
 use mathlib.Core.Option.{some}
 use Prim.Native.Nat.{ℕ, _+_, _≤_, min}
@@ -19,14 +19,11 @@ use Rattle.definition.specs.Change.{Change, altered, referenceOf, trimme
 use Rattle.definition.specs.Place.{isPure, placeOf}
 use Rattle.definition.specs.Answer.{Named, named, namedReplacement, isInversion, firstBaseRule, hasLastBaseRule, lastBaseRule, leavesTarget}
 use Rattle.definition.specs.Verdict.{normal, normalAt, namedAt}
+use Rattle.definition.proofs.Tests.{and-false}
 use Rattle.definition.proofs.Trims.{TrimFacts, trim-facts}
 
 abbrev pub replacedBy : ℕ → List ℕ → List ℕ → Named
 replacedBy at ref alt = record { class = Replacement; start = at + 1; end = at + 1; reference = ref; alternative = alt }
-
-and-no : (b : Bool) → (b && false) ≡ false
-and-no true = refl
-and-no false = refl
 
 -- two different bases share nothing
 no-prefix : (x y : ℕ) → (x ≡ y → ⊥) → (lcp (x ∷ []) (y ∷ []) ≡ 0) × (lcs (x ∷ []) (y ∷ []) ≡ 0)
@@ -71,7 +68,7 @@ module _ (direction : Direction) (target : List ℕ) (at end x y : ℕ) (fits : 
   one-named kind piece =
       let first : eqb (at + 1) 0 ≡ false = ne-eqb (at + 1) 0 (omega arith) in
       let last : eqb (at + 1) (length target + 1) ≡ false = ne-eqb (at + 1) (length target + 1) (omega (arith, one-wide)) in
-      rw (one-leaves direction piece, first, last, and-no (hasLastBaseRule kind))
+      rw (one-leaves direction piece, first, last, and-false (hasLastBaseRule kind))
 
   pub one-normal : (kind : Kind) (piece : Piece)
       → normal direction kind piece target (altered target one) (trimmed direction target one) ≡ some (replacedBy at (x ∷ []) (y ∷ []))

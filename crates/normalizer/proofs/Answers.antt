@@ -20,7 +20,7 @@ use Rattle.definition.specs.Piece.{pieceFor}
 use Rattle.definition.specs.Verdict.{refused, answered, answerAtOnce, readAlternative}
 use Rattle.definition.specs.Reply.{written, outcomeOf, referenceOut, alternativeOut, Met}
 use Rattle.definition.proofs.Pieces.{piece-for-holds}
-use Rattle.shuffle.proofs.Parts.{lent-part}
+use Rattle.definition.proofs.Parts.{lent-part}
 use Rattle.normalizer.specs.declared.Way.the-variants.{Later}
 use Rattle.normalizer.specs.Asked.{wayOf, inPlace, Ranged, Passed}
 
@@ -89,6 +89,6 @@ in-place-met class target start end alternative o fits first last ef el referenc
             «reference_size» = n;
             «alternative_size» = length alternative;
           })) size;
-      referenceBuffer = er ∙ ap (λ (x : List ℕ). written x reference) (lent-part start end target (omega arith) fits);
+      referenceBuffer = er ∙ ap (λ (x : List ℕ). written x reference) (lent-part start end target);
       alternativeBuffer = ea;
     }

@@ -16,7 +16,7 @@ use Rattle.definition.specs.Bases.{sameBases}
 use Rattle.definition.specs.Answer.{Named}
 use Rattle.definition.specs.Verdict.{replacedAtOnce, shortcut}
 use Rattle.definition.proofs.Tests.{and-true}
-use Rattle.shuffle.proofs.Parts.{lent-part}
+use Rattle.definition.proofs.Parts.{lent-part}
 use Rattle.normalizer.specs.declared.Way.{Way}
 use Rattle.normalizer.specs.declared.Way.the-variants.{Same, Single, Later}
 use Rattle.normalizer.specs.Asked.{replacedWay, wayOf, inPlace}
@@ -30,7 +30,7 @@ module _ (target alternative : List ℕ) (start end : ℕ) (ordered : start < en
 
   -- the test over the lent part is one over the reference
   pub tested : (b : Bool) → b ≡ sameBases (take (end - start) (drop start target)) alternative → b ≡ sameBases reference alternative
-  tested b e = e ∙ ap (λ (x : List ℕ). sameBases x alternative) (lent-part start end target (omega arith) fits)
+  tested b e = e ∙ ap (λ (x : List ℕ). sameBases x alternative) (lent-part start end target)
 
   pub way-same : sameBases reference alternative ≡ true → Same ≡ replacedWay reference alternative
   unfolding replacedWay

@@ -11,7 +11,7 @@ use Rattle.definition.specs.Bases.{complement, reverseComplement, sameBases}
 use Rattle.definition.specs.Answer.{isInversion}
 use Rattle.alleles.specs.Held.{window}
 use Rattle.alleles.proofs.Laws.{window-length, window-at}
-use Rattle.results.proofs.Tests.{and-false}
+use Rattle.definition.proofs.Tests.{and-false}
 use Rattle.sequences.proofs.ReverseComplement.{length-reverse-complement, reverse-complement-at}
 
 module _ (bytes : List ℕ) (head n : ℕ) where

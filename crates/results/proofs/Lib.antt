@@ -1,4 +1,3 @@
-pub mod Tests
 pub mod Compared
 pub mod Inverted
 pub mod Parts

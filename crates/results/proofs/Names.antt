@@ -15,7 +15,7 @@ use Rattle.definition.specs.declared.Piece.{Piece}
 use Rattle.definition.specs.Answer.{Named, copyBeside, copyStart, namedInsertion, isInversion, namedReplacement, named}
 use Rattle.definition.proofs.Tests.{and-true}
 use Rattle.definition.proofs.Meaning.{copy-fits}
-use Rattle.results.proofs.Parts.{slice-size}
+use Rattle.definition.proofs.Parts.{slice-size}
 use Rattle.results.proofs.Copies.{copy-is}
 use Rattle.results.specs.Called.{calledIn, unanchored, Calls, CallsAt}
 

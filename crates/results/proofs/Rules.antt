@@ -17,7 +17,7 @@ use Rattle.definition.specs.Bases.{sameBases}
 use Rattle.definition.specs.Answer.{Named, replacedOrUnchanged, firstBaseRule, hasLastBaseRule, lastBaseRule}
 use Rattle.definition.proofs.Tests.{same-refl}
 use Rattle.sequences.proofs.SameBases.{not-as-long}
-use Rattle.results.proofs.Tests.{and-false}
+use Rattle.definition.proofs.Tests.{and-false}
 use Rattle.results.specs.declared.Anchor.the-variants.{Alone, First, Last}
 use Rattle.results.specs.declared.Called.{Called}
 use Rattle.results.specs.Called.{calledIn, Calls, FirstClass}

@@ -17,7 +17,7 @@ use Rattle.definition.specs.Verdict.{answered, answeredOr16, namedAt}
 use Rattle.definition.specs.Reply.{written, outcomeOf, referenceOut, alternativeOut, Met}
 use Rattle.alleles.specs.Held.{window}
 use Rattle.alleles.proofs.Laws.{window-take}
-use Rattle.results.proofs.Parts.{slice-size}
+use Rattle.definition.proofs.Parts.{slice-size}
 use Rattle.results.specs.declared.Called.{Called}
 use Rattle.results.specs.Called.{anchored, calledIn, reported}
 

@@ -4,4 +4,3 @@ pub mod ReverseComplement
 pub mod SameBases
 pub mod Suffix
 pub mod Unique
-pub mod Written

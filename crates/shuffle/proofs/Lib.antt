@@ -1,4 +1,3 @@
-pub mod Parts
 pub mod Shared
 pub mod Standing
 pub mod Steps

@@ -22,7 +22,7 @@ use Rattle.definition.proofs.Walks.{is-pure}
 use Rattle.alleles.specs.declared.Allele.{Allele}
 use Rattle.alleles.specs.Held.{held, Holds}
 use Rattle.shuffle.specs.declared.Shuffled.{Shuffled}
-use Rattle.shuffle.proofs.Parts.{lent-part}
+use Rattle.definition.proofs.Parts.{lent-part}
 use Rattle.shuffle.proofs.Slides.{inserted-part}
 use Rattle.shuffle.specs.Shuffle.{Sizes, Poised, Part, Slid, Asked, Settled}
 
@@ -159,7 +159,7 @@ module _ (direction : Direction) (piece : Piece) (target : List ℕ) (c : Change
   filled-part : (r : Allele) (f n : ℕ) (l : List ℕ) → f + n ≤ length l
       → Holds r 0 (length (take (f + n - f) (drop f l))) (take (f + n - f) (drop f l)) → Part r f n l
   filled-part r f n l h w =
-      let e : take (f + n - f) (drop f l) ≡ slice f (f + n) l = lent-part f (f + n) l (omega arith) h in
+      let e : take (f + n - f) (drop f l) ≡ slice f (f + n) l = lent-part f (f + n) l in
       record {
         good = w .good;
         count = w .count ∙ ap length e ∙ length-slice f (f + n) l h ∙ omega arith;

@@ -18,7 +18,7 @@ use Rattle.definition.specs.Change.{splice}
 use Rattle.definition.specs.Place.{Inside, NotFurther, rightEdge, furthest, stoppedByBase}
 use Rattle.definition.proofs.Prefixes.{lcp-le-left, lcp-le-right, lcs-le-left, lcs-le-right}
 use Rattle.definition.proofs.Places.{length-splice, splice-lcp, splice-lcs, from-edge, to-edge}
-use Rattle.shuffle.proofs.Parts.{counted-part}
+use Rattle.definition.proofs.Parts.{counted-part}
 use Rattle.shuffle.proofs.Standing.{Stands, extra, added, shorter}
 use Rattle.alleles.specs.Windows.{WindowedRight, WindowedLeft}
 use Rattle.shuffle.proofs.Steps.{At, onwards, backwards, step-right, step-left}

@@ -7,7 +7,7 @@ use lib.ListN.{length, take, drop}
 use lib.Seq.{slice}
 use Rattle.definition.specs.Prefix.{lcp, lcs}
 use Rattle.definition.proofs.Prefixes.{lcp-take, lcs-drop, lcp-le-left, lcp-le-right}
-use Rattle.shuffle.proofs.Parts.{counted-part, joined-parts, backward-part, onward-part}
+use Rattle.definition.proofs.Parts.{counted-part, joined-parts, backward-part, onward-part}
 use Rattle.shuffle.proofs.Shared.{lcp-parts, lcs-parts}
 
 -- of two lengths, the bases by which the first is longer, and the shorter of the two

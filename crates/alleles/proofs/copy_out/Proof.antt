@@ -7,7 +7,7 @@ use mathlib.Core.Path.{_≡_, refl, sym}
 use lib.ListN.{length, length-set}
 use Rattle.alleles.specs.Held.{window}
 use Rattle.alleles.proofs.Laws.{window-length, window-at}
-use Rattle.alleles.proofs.Laid.{Laid, laid-more, laid-done}
+use Rattle.definition.proofs.Laid.{Laid, laid-more, laid-done}
 use Rattle.alleles.proofs.copy_out.Statement.{statement}
 use Rattle.alleles.proofs.copy_out.Tie as tie
 

@@ -7,7 +7,7 @@ use mathlib.Core.Path.{_≡_, refl}
 use lib.ListN.{length, length-set}
 use Rattle.alleles.specs.Held.{window}
 use Rattle.alleles.proofs.Laws.{window-length, window-set}
-use Rattle.alleles.proofs.Laid.{Laid, laid-more, laid-done}
+use Rattle.definition.proofs.Laid.{Laid, laid-more, laid-done}
 use Rattle.alleles.proofs.store.Statement.{statement}
 use Rattle.alleles.proofs.store.Tie as tie
 

@@ -7,7 +7,7 @@ use lib.ListN.{length, take, drop}
 use Rattle.definition.specs.declared.Edit.the-variants.{Invert}
 use Rattle.definition.specs.Bases.{reverseComplement}
 use Rattle.definition.specs.Change.{spelled}
-use Rattle.shuffle.proofs.Parts.{lent-part}
+use Rattle.definition.proofs.Parts.{lent-part}
 use Rattle.normalizer.proofs.Spells.{inverted-size, inverted-back, reads-nothing, asks}
 use borrow.Author.Needs.{needs}
 use Rattle.normalizer.proofs.inverted.Statement.{statement}
@@ -42,7 +42,7 @@ unfolding spelled
 moved-requires c κs =
     let s = c .before .before .before .before .before .before .before .before .before .before in
     let v = c .before .before .before .before .revcomp in
-    let e = inverted-back (take (s .args .end .0 - s .args .start .0) (drop (s .args .start .0) (s .args .target .now))) _ _ (v .result) (v .ensures .0) (v .ensures .1) ∙ ap reverseComplement (lent-part (s .args .start .0) (s .args .end .0) (s .args .target .now) (omega (arith, s .pre .0 .ordered)) (s .pre .0 .inTarget)) in (
+    let e = inverted-back (take (s .args .end .0 - s .args .start .0) (drop (s .args .start .0) (s .args .target .now))) _ _ (v .result) (v .ensures .0) (v .ensures .1) ∙ ap reverseComplement (lent-part (s .args .start .0) (s .args .end .0) (s .args .target .now)) in (
       rw e (asks (s .args .piece) (s .args .target .now) (s .args .start .0) (s .args .end .0) (s .args .window) (s .pre .0) Invert [] (reads-nothing (s .args .start .0) (s .args .end .0))),
       ((omega (arith, s .pre .0 .ordered, s .pre .0 .inTarget), s .pre .0 .short), s .pre .1),
     )
@@ -58,7 +58,7 @@ unfolding spelled
 returns c =
     let s = c .before .before .before .before .before .before .before .before .before .before .before .before .before .before .before in
     let v = c .before .before .before .before .before .before .before .before .before .revcomp in
-    let e = inverted-back (take (s .args .end .0 - s .args .start .0) (drop (s .args .start .0) (s .args .target .now))) _ _ (v .result) (v .ensures .0) (v .ensures .1) ∙ ap reverseComplement (lent-part (s .args .start .0) (s .args .end .0) (s .args .target .now) (omega (arith, s .pre .0 .ordered)) (s .pre .0 .inTarget)) in
+    let e = inverted-back (take (s .args .end .0 - s .args .start .0) (drop (s .args .start .0) (s .args .target .now))) _ _ (v .result) (v .ensures .0) (v .ensures .1) ∙ ap reverseComplement (lent-part (s .args .start .0) (s .args .end .0) (s .args .target .now)) in
     rw (← e) (c .before .before .before .before .moved .ensures)
 
 pub inverted-spec : {M : Type 1} → statement M

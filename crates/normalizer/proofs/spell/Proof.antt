@@ -2,7 +2,7 @@
 use native.Mathlib.Omega.{arith}
 use Rattle.definition.specs.declared.Edit.the-variants.{Insert, Duplicate, Delete, Replace}
 use Rattle.definition.specs.Change.{spelled}
-use Rattle.shuffle.proofs.Parts.{lent-part}
+use Rattle.definition.proofs.Parts.{lent-part}
 use Rattle.normalizer.proofs.Spells.{asks}
 use borrow.Author.Needs.{needs}
 use Rattle.normalizer.proofs.spell.Statement.{statement}
@@ -38,7 +38,7 @@ moved-requires-2 : tie.Need-moved-requires-2
 unfolding spelled
 moved-requires-2 c κs =
     let s = c .before .before .before .before .before .before .before .before .before in (
-      rw (lent-part (s .args .start .0) (s .args .end .0) (s .args .target .now) (omega (arith, s .pre .0 .ordered)) (s .pre .0 .inTarget)) (asks (s .args .piece) (s .args .target .now) (s .args .start .0) (s .args .end .0) (s .args .window) (s .pre .0) Duplicate (s .args .alternative .now) (rw (c .before .before .before .enum-told2 .given .1) at (s .pre .1 .0))),
+      rw (lent-part (s .args .start .0) (s .args .end .0) (s .args .target .now)) (asks (s .args .piece) (s .args .target .now) (s .args .start .0) (s .args .end .0) (s .args .window) (s .pre .0) Duplicate (s .args .alternative .now) (rw (c .before .before .before .enum-told2 .given .1) at (s .pre .1 .0))),
       ((omega (arith, s .pre .0 .ordered, s .pre .0 .inTarget), s .pre .0 .short), s .pre .1 .1),
     )
 
@@ -95,7 +95,7 @@ returns-2 : tie.Need-returns-2
 unfolding spelled
 returns-2 c =
     let s = c .before .before .before .before .before .before .before .before .before .before .before .before .before .before in
-    rw (c .before .before .before .before .before .before .before .before .enum-told2 .given .1, ← (lent-part (s .args .start .0) (s .args .end .0) (s .args .target .now) (omega (arith, s .pre .0 .ordered)) (s .pre .0 .inTarget))) (c .before .before .before .before .moved2 .ensures)
+    rw (c .before .before .before .before .before .before .before .before .enum-told2 .given .1, ← (lent-part (s .args .start .0) (s .args .end .0) (s .args .target .now))) (c .before .before .before .before .moved2 .ensures)
 
 same-length-5 : tie.Need-same-length-5
 same-length-5 c = search needs

@@ -5,7 +5,7 @@ use Prim.Native.Nat.{_+_}
 use lib.Seq.{slice}
 use Rattle.alleles.specs.Held.{window}
 use Rattle.alleles.proofs.Laws.{window-length}
-use Rattle.results.proofs.Parts.{slice-size}
+use Rattle.definition.proofs.Parts.{slice-size}
 use Rattle.results.proofs.Verdicts.{called-kept, met-row-16, met-answered}
 use borrow.Author.Needs.{needs}
 use Rattle.results.proofs.build_result.Statement.{statement}

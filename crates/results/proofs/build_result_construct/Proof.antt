@@ -5,7 +5,7 @@ use Prim.Native.Nat.{ℕ, _+_}
 use Rattle.definition.specs.Reply.{written}
 use Rattle.alleles.specs.Held.{window}
 use Rattle.alleles.proofs.Laws.{window-length}
-use Rattle.results.proofs.Parts.{part-slice}
+use Rattle.definition.proofs.Parts.{lent-part}
 use Rattle.results.proofs.Verdicts.{met-called}
 use borrow.Author.Needs.{needs}
 use Rattle.results.proofs.build_result_construct.Statement.{statement}
@@ -45,7 +45,7 @@ returns c =
     (c .before .before .before .before .before .before .before .before .before .before .before .before .before .before .pre .inTarget) (window-length (a .alternative .now) (a .head) (n .«alternative_size»))
     (c .before .before .before .before .before .before .write-part .ensures
     ∙ ap (λ (part : List ℕ). written part (a .reference-out .now))
-    (part-slice (n .«reference_start» .0) (n .«reference_start» .0 + n .«reference_size») (a .target .now)))
+    (lent-part (n .«reference_start» .0) (n .«reference_start» .0 + n .«reference_size») (a .target .now)))
     (c .before .before .write-anchored .ensures .0) (c .before .before .write-anchored .ensures .1)
 
 pub build-result-construct-spec : {M : Type 1} → statement M

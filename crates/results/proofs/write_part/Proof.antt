@@ -5,7 +5,7 @@ use borrow.Author.Needs.{needs}
 use mathlib.Core.Path.{_≡_, refl}
 use mathlib.Core.List.{_++_}
 use lib.ListN.{length, take, drop, length-set}
-use Rattle.sequences.proofs.Written.{written-next, written-all}
+use Rattle.definition.proofs.Laid.{laid-more, laid-done}
 use Rattle.results.proofs.write_part.Statement.{statement}
 use Rattle.results.proofs.write_part.Tie as tie
 
@@ -34,7 +34,7 @@ loop-again : tie.Need-loop-again Inv-loop μ-loop
 loop-again c =
     let l = c .before .before .loop in
     let a = c .before .before .before .args in
-    (search needs, simp length-set (omega arith), written-next (a .part .now) (a .out .now) (l .out) (l .i) _ (omega arith) (omega arith) (l .inv .2) refl)
+    (search needs, simp length-set (omega arith), laid-more (a .part .now) (a .out .now) (l .out) (l .i) _ (omega arith) (omega arith) (l .inv .2) refl)
 
 same-length : tie.Need-same-length Inv-loop μ-loop
 same-length c = search needs
@@ -43,7 +43,7 @@ returns : tie.Need-returns Inv-loop μ-loop
 returns c =
     let l = c .before .loop in
     let a = c .before .before .args in
-    written-all (a .part .now) (a .out .now) (l .out) (l .i) (omega arith) (l .inv .2)
+    laid-done (a .part .now) (a .out .now) (l .out) (l .i) (omega arith) (l .inv .2)
 
 pub write-part-spec : {M : Type 1} → statement M
 write-part-spec =

@@ -7,7 +7,7 @@ use borrow.Author.Needs.{needs}
 use lib.ListN.{length, take, drop, length-set}
 use Rattle.definition.specs.Bases.{reverseComplement}
 use Rattle.sequences.proofs.ReverseComplement.{length-reverse-complement, reverse-complement-at}
-use Rattle.sequences.proofs.Written.{written-next, written-all}
+use Rattle.definition.proofs.Laid.{laid-more, laid-done}
 use Rattle.sequences.proofs.revcomp.Statement.{statement}
 use Rattle.sequences.proofs.revcomp.Tie as tie
 
@@ -51,7 +51,7 @@ loop-again c =
       search needs,
       search needs,
       simp length-set (omega arith),
-      written-next (reverseComplement (a .part .now)) (a .out .now) (at .loop .out) (at .loop .i) _ (omega arith) (omega arith) (at .loop .inv .4)
+      laid-more (reverseComplement (a .part .now)) (a .out .now) (at .loop .out) (at .loop .i) _ (omega arith) (omega arith) (at .loop .inv .4)
           (c .complement .ensures ∙ sym (reverse-complement-at (a .part .now) (at .loop .i) (omega arith))),
     )
 
@@ -63,7 +63,7 @@ returns c =
     let a = c .before .before .before .before .args in
     let l = c .before .loop in (
       search needs,
-      written-all (reverseComplement (a .part .now)) (a .out .now) _ (l .i) (omega (arith, length-reverse-complement (a .part .now))) (l .inv .4),
+      laid-done (reverseComplement (a .part .now)) (a .out .now) _ (l .i) (omega (arith, length-reverse-complement (a .part .now))) (l .inv .4),
     )
 
 pub revcomp-spec : {M : Type 1} → statement M

@@ -6,7 +6,7 @@ use lib.Seq.{slice}
 use denote.Ref.{now}
 use Rattle.definition.proofs.Prefixes.{lcp-le-left, lcp-le-right}
 use Rattle.definition.proofs.Places.{from-edge}
-use Rattle.shuffle.proofs.Parts.{lent-part}
+use Rattle.definition.proofs.Parts.{lent-part}
 use Rattle.shuffle.proofs.Trimming.{front-first, back-second}
 use borrow.Author.Needs.{needs}
 use Rattle.shuffle.proofs.normalize_alleles_5_to_3.Statement.{statement}
@@ -42,7 +42,7 @@ trim-common-suffixes-requires c κs = search needs
 move-trimmed-requires : tie.Need-move-trimmed-requires
 move-trimmed-requires c κs =
     let s = c .before .before .before .before .before .before .before in
-    let lent = lent-part (s .args .from .0) (s .args .to .0) (s .args .target .now) (s .pre .order) (from-edge (s .args .piece) (s .args .target .now) (s .pre .right) .1) in (
+    let lent = lent-part (s .args .from .0) (s .args .to .0) (s .args .target .now) in (
       s .pre,
       (
         front-first (take (s .args .to .0 - s .args .from .0) (drop (s .args .from .0) (s .args .target .now))) (slice (s .args .from .0) (s .args .to .0) (s .args .target .now)) (s .args .inserted .now) (now (c .before .before .after .result)) (now (c .before .after2 .result)) (c .before .before .before .trim-common-prefixes .result) (c .trim-common-suffixes .result) lent (c .before .before .before .trim-common-prefixes .ensures),

@@ -5,7 +5,7 @@ use native.Mathlib.Omega.{arith}
 use lib.ListN.{length, take, drop}
 use lib.Seq.{length-slice}
 use borrow.Author.Needs.{needs}
-use Rattle.shuffle.proofs.Parts.{lent-part}
+use Rattle.definition.proofs.Parts.{lent-part}
 use Rattle.shuffle.proofs.normalize_alleles_left_inner.Statement.{statement}
 use Rattle.shuffle.proofs.normalize_alleles_left_inner.Tie as tie
 
@@ -42,7 +42,7 @@ returns : tie.Need-returns
 returns c =
     let s = c .before .before .before .before .before .before .args in
     let size = c .before .before .before .before .least .result in
-    let e = lent-part (s .place - size) (s .place) (s .target .now) (omega arith) (omega arith) in
+    let e = lent-part (s .place - size) (s .place) (s .target .now) in
     let wide : length (take (s .place - (s .place - size)) (drop (s .place - size) (s .target .now))) ≡ size =
     ap length e ∙ length-slice (s .place - size) (s .place) (s .target .now) (omega arith) ∙ omega arith in
     record {

@@ -4,7 +4,7 @@ use Prim.Native.Nat.{_+_, _-_}
 use mathlib.Core.Path.{_≡_, ap, _∙_}
 use lib.ListN.{length, take, drop}
 use lib.Seq.{length-slice}
-use Rattle.shuffle.proofs.Parts.{lent-part}
+use Rattle.definition.proofs.Parts.{lent-part}
 use Rattle.shuffle.proofs.normalize_alleles_right_inner.Statement.{statement}
 use Rattle.shuffle.proofs.normalize_alleles_right_inner.Tie as tie
 
@@ -45,7 +45,7 @@ returns : tie.Need-returns
 returns c =
     let s = c .before .before .before .before .before .before .args in
     let size = c .before .before .before .before .least .result in
-    let e = lent-part (s .place + s .rn) (s .place + s .rn + size) (s .target .now) (omega arith) (omega arith) in
+    let e = lent-part (s .place + s .rn) (s .place + s .rn + size) (s .target .now) in
     let wide : length (take (s .place + s .rn + size - (s .place + s .rn)) (drop (s .place + s .rn) (s .target .now))) ≡ size =
     ap length e ∙ length-slice (s .place + s .rn) (s .place + s .rn + size) (s .target .now) (omega arith) ∙ omega arith in
     record {

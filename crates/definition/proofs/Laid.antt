@@ -1,5 +1,4 @@
--- A list laid down byte by byte over another: the step and the end of a loop that does so.
--- Assumes nothing.
+-- A list laid down byte by byte over another: the step and the end of a loop that writes an allele out. Assumes nothing.
 use Prim.Native.Nat.{ℕ, suc, _+_, _<_, _≤_}
 use native.Mathlib.Omega.{arith}
 use native.Mathlib.Numerals.{add-one}
