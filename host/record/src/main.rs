@@ -27,7 +27,8 @@
 //!
 //! Refusal, class, range and alleles are the Rust's own wherever it can be asked; refusals of rows
 //! that the Rust has not, and the probes, which it does not count, are the model's. Both answer
-//! buffers have 1,025 bytes, so row 9 is not in the file.
+//! buffers have 1,025 bytes, so row 9 is not in the file. The program that replays the file takes at
+//! most 524,288 bytes.
 
 mod file;
 mod sample;

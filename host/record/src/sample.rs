@@ -1,5 +1,6 @@
 //! The sample: a few requests of every sort, where the sort is what was answered (refusal or class),
-//! kind, edit, direction and the tables' shape.
+//! kind, edit, direction and the tables' shape. Of requests that take many bytes it has one for each
+//! size of target and each answer, and of the largest targets only answered ones.
 
 use model::Verdict;
 use oracle::{Oracle, Verdict as OfTheRust};
@@ -17,10 +18,14 @@ pub struct Record {
 
 /// How many requests are looked at, and how many of one sort are kept.
 const LOOKED_AT: u64 = 400_000;
-const ANSWERED_OF_ONE_SORT: usize = 4;
-const FEW_OF_ONE_SORT: usize = 2;
+const ANSWERED_OF_ONE_SORT: usize = 3;
+const REFUSED_OF_ONE_SORT: usize = 1;
+/// The most bytes that target, table and alternative of a short request have together.
+const SHORT: usize = 40;
 /// The longest target of each size. Above the first size few are kept, for the file's sake.
 const SIZES: [usize; 5] = [300, 1_024, 2_100, 65_534, 65_535];
+/// The first size of which only an answered request is kept.
+const HUGE: usize = 3;
 
 /// What tells one sort of request from another. Codes past the last are one sort.
 #[derive(Clone, Copy, PartialEq, Eq, Hash)]
@@ -33,7 +38,8 @@ enum Sort {
     },
     Long {
         size: usize,
-        refused: bool,
+        refusal: u32,
+        class: u32,
     },
 }
 
@@ -80,11 +86,7 @@ impl Sample<'_> {
         let verdict = model::verdict(&request.lent());
         let sort = sort_of(&request, &verdict);
         let alike = self.kept.get(&sort).copied().unwrap_or(0);
-        let most = match sort {
-            Sort::Short { refusal: 0, .. } => ANSWERED_OF_ONE_SORT,
-            _ => FEW_OF_ONE_SORT,
-        };
-        if alike >= most {
+        if alike >= most_of(&sort) {
             return true;
         }
         match self.expected(&request, &verdict) {
@@ -158,15 +160,31 @@ fn refused(request: &Request, row: u32) -> Record {
     }
 }
 
+/// How many requests of a sort are kept.
+fn most_of(sort: &Sort) -> usize {
+    match *sort {
+        Sort::Short { refusal: 0, .. } => ANSWERED_OF_ONE_SORT,
+        Sort::Short { .. } => REFUSED_OF_ONE_SORT,
+        Sort::Long { size, refusal, .. } => {
+            let kept = size < HUGE || refusal == 0;
+            usize::from(kept)
+        }
+    }
+}
+
 fn sort_of(request: &Request, verdict: &Verdict) -> Sort {
     let (refusal, class) = match verdict {
         Verdict::Refused(row) => (*row, 0),
         Verdict::Answered(answer) => (0, answer.class as u32),
     };
     let size = SIZES.partition_point(|&longest| longest < request.target.len());
-    if size > 0 {
-        let refused = refusal != 0;
-        return Sort::Long { size, refused };
+    let bytes = request.target.len() + request.exons.len() + request.alternative.len();
+    if bytes > SHORT {
+        return Sort::Long {
+            size,
+            refusal,
+            class: if size < HUGE { class } else { 0 },
+        };
     }
     let reads_tables = request.kind == 1 && !(1..10).contains(&refusal);
     Sort::Short {

@@ -1,0 +1,101 @@
+// The requests of 01's bench on target CAAATGGTACCA, written as arguments, each with its answer in columns.
+use asking::Reached;
+
+// The columns' widths: that of the arguments, and that of each part of an answer.
+const ASKED: usize = 72;
+
+const PART: usize = 13;
+
+// What the words of a row reach, in columns.
+fn put_reached(page: &mut [u8], used: &mut usize, words: &[u8]) {
+    let mut reference_space = [0u8; 1025];
+    let mut alternative_space = [0u8; 1025];
+    let reference: &mut [u8] = &mut reference_space;
+    let alternative: &mut [u8] = &mut alternative_space;
+    match asking::ask(words, reference, alternative) {
+        Reached::Outcome(outcome) => answers::put_outcome(
+            page,
+            used,
+            PART,
+            outcome,
+            reference,
+            alternative,
+        ),
+        Reached::Problem(problem) => asking::put_problem(page, used, words, problem),
+    }
+}
+
+// The answer to a row, which is the arguments after the target.
+fn put_answer(page: &mut [u8], used: &mut usize, row: &[u8]) {
+    let mut space = [0u8; 256];
+    let words: &mut [u8] = &mut space;
+    let named = lines::expand(b"--target CAAATGGTACCA ", 0, words, 0);
+    let filled = lines::expand(row, 0, words, named);
+    let size = lines::push(words, filled, 0);
+    put_reached(page, used, terminal::part(words, 0, size));
+}
+
+// A row is written by itself, so that its columns are counted from the page's start.
+fn put_row(page: &mut [u8], used: &mut usize, row: &[u8]) {
+    terminal::put(page, used, row);
+    terminal::put_spaces(page, used, 0, ASKED);
+    put_answer(page, used, row);
+    terminal::put_byte(page, used, b'\n');
+    terminal::flush(page, used);
+}
+
+fn put_rows(page: &mut [u8], used: &mut usize, rows: &[u8]) {
+    let mut from = 0;
+    while from < rows.len() {
+        let end = terminal::find(rows, from, b'\n');
+        put_row(page, used, terminal::part(rows, from, end));
+        from = lines::next_row(rows, from);
+    }
+}
+
+fn put_heading(page: &mut [u8], used: &mut usize) {
+    terminal::put(
+        page,
+        used,
+        b"The bench of 01: each row is asked after --target CAAATGGTACCA; --help tells how to ask for a change of your own.\n\n",
+    );
+    terminal::flush(page, used);
+    terminal::put(page, used, b"asked");
+    terminal::put_spaces(page, used, 0, ASKED);
+    terminal::put(
+        page,
+        used,
+        b"class        range        reference    alternative  probes\n",
+    );
+    terminal::flush(page, used);
+}
+
+pub fn put_table(page: &mut [u8], used: &mut usize) {
+    put_heading(page, used);
+    put_rows(
+        page,
+        used,
+        b"--edit del --range 1 2
+--edit del --range 3 4 --direction left
+--kind transcript --exons 0-4,4-12 --edit del --range 1 2
+--edit ins --range 0 2 --alt A
+--edit ins --range 3 5 --alt A --direction left
+--edit ins --range 3 5 --alt C
+--edit dup --range 1 2
+--edit replace --range 4 6 --alt TCG
+--edit replace --range 4 6 --alt CA
+--edit inv --range 4 5
+--edit inv --range 5 11
+--edit inv --range 5 11 --direction left
+--kind transcript --exons 0-12 --edit ins --range 10 12 --alt AG
+--edit ins --range 10 12 --alt AG
+--edit ins --range 0 2 --alt GC --direction left
+--edit ins --range 10 12 --alt GG --direction left
+--kind transcript --exons 0-12 --edit ins --range 10 12 --alt GG --direction left
+--kind transcript --exons 0-4,4-12 --edit ins --range 4 6 --alt AT
+--kind transcript --exons 0-12 --edit ins --range 4 6 --alt AT
+--kind transcript --exons 0-4,4-12 --edit ins --range 3 5 --alt C
+--kind transcript --exons 0-12 --cds-start 4 --edit ins --range 3 5 --alt C
+",
+    );
+}

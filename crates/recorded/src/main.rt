@@ -1,0 +1,211 @@
+// Replays stored answers: asks for each record's request again, names each record whose answer differs from the stored one, and counts the
+// records that agree. The answers are the Rust's; the program needs no Rust.
+ghost use Prim.Native.Nat.{_≤_};
+ghost use lib.ListN.{length};
+use libc::STDOUT_FILENO;
+use records::Compared;
+
+// A record that was replayed: whether the file has the whole of it, whether its answer is the stored one, what was answered, and the place
+// behind it.
+struct Replayed {
+    whole: bool,
+    agrees: bool,
+    refusal: u32,
+    class: u32,
+    to: usize,
+}
+
+// How many records were replayed and agreed, and of those that agreed how many had each class and each refusal; number 0 is none.
+struct Totals {
+    replayed: u32,
+    agreed: u32,
+    classes: [u32; 17],
+    refusals: [u32; 17],
+}
+
+fn say(words: &[u8]) {
+    io::write_all(STDOUT_FILENO, words);
+}
+
+fn say_number(number: u32) {
+    io::print_decimal(STDOUT_FILENO, number as u64);
+}
+
+fn say_unless(same: bool, words: &[u8]) {
+    if !same {
+        say(words);
+    }
+}
+
+fn agrees(compared: Compared) -> bool {
+    let numbers = compared.same_start && compared.same_end && compared.same_probes;
+    let alleles = compared.same_reference && compared.same_alternative;
+    compared.same_refusal && compared.same_class && numbers && alleles
+}
+
+// The line of a record that differs: its number, from 1, and what differs.
+fn say_difference(number: u32, compared: Compared) {
+    say(b"record ");
+    say_number(number);
+    say(b" differs:");
+    say_unless(compared.same_refusal, b" refusal");
+    say_unless(compared.same_class, b" class");
+    say_unless(compared.same_start, b" start");
+    say_unless(compared.same_end, b" end");
+    say_unless(compared.same_probes, b" probes");
+    say_unless(compared.same_reference, b" reference");
+    say_unless(compared.same_alternative, b" alternative");
+    say(b"\n");
+}
+
+// The record at a place of the file, replayed.
+fn replay(file: &[u8], at: usize, number: u32) -> Replayed
+    requires { ⌜ length (now file) ≤ 524288 ⌝ }
+{
+    let request = records::request_at(file, at);
+    let stored = records::stored_at(file, request.to);
+    if !(request.whole && stored.whole) {
+        return Replayed {
+            whole: false,
+            agrees: false,
+            refusal: 0,
+            class: 0,
+            to: at,
+        };
+    }
+    let compared = records::replayed(file, request, stored);
+    let same = agrees(compared);
+    if !same {
+        say_difference(number, compared);
+    }
+    Replayed {
+        whole: true,
+        agrees: same,
+        refusal: compared.refusal,
+        class: compared.class,
+        to: stored.to,
+    }
+}
+
+// Counts one more of a number. No number is past the table's last, and no count reaches the limit.
+fn raise(table: &mut [u32; 17], number: u32) {
+    if number < 17 {
+        let i = number as usize;
+        let count = table[i];
+        if count < 4294967295 {
+            table[i] = count + 1;
+        }
+    }
+}
+
+// All records of a file, replayed; fewer where the file is cut.
+fn replay_all(file: &[u8]) -> Totals
+    requires { ⌜ length (now file) ≤ 524288 ⌝ }
+{
+    let count = records::number(file, 0);
+    let mut classes = [0u32; 17];
+    let mut refusals = [0u32; 17];
+    let mut replayed: u32 = 0;
+    let mut agreed: u32 = 0;
+    let mut at: usize = 4;
+    while replayed < count {
+        let record = replay(file, at, replayed + 1);
+        if !record.whole {
+            break;
+        }
+        replayed += 1;
+        at = record.to;
+        if record.agrees {
+            agreed += 1;
+            raise(&mut classes, record.class);
+            raise(&mut refusals, record.refusal);
+        }
+    }
+    say_rest(file.len(), at, replayed, count);
+    Totals {
+        replayed: replayed,
+        agreed: agreed,
+        classes: classes,
+        refusals: refusals,
+    }
+}
+
+// A sentence where the file ends within a record, or goes on behind the last.
+fn say_rest(size: usize, at: usize, replayed: u32, count: u32) {
+    if replayed < count {
+        say(b"The file is cut: it tells of ");
+        say_number(count);
+        say(b" records and has the whole of ");
+        say_number(replayed);
+        say(b".\n");
+    } else if at != size {
+        say(b"The file does not end with its last record.\n");
+    }
+}
+
+fn say_count(words: &[u8], count: u32) {
+    say(words);
+    say_number(count);
+    say(b"\n");
+}
+
+fn say_totals(totals: Totals) {
+    say_number(totals.replayed);
+    say(b" records replayed, ");
+    say_number(totals.agreed);
+    say(b" agreed\n");
+    let classes = totals.classes;
+    say_count(b"insertion: ", classes[1]);
+    say_count(b"duplication: ", classes[2]);
+    say_count(b"deletion: ", classes[3]);
+    say_count(b"replacement: ", classes[4]);
+    say_count(b"inversion: ", classes[5]);
+    say_count(b"unchanged: ", classes[6]);
+    let refusals = totals.refusals;
+    say_refusals(&refusals);
+}
+
+// The line of a refusal that was answered.
+fn say_refusal(row: u32, count: u32) {
+    if 0 < count {
+        say(b"refusal ");
+        say_number(row);
+        say_count(b": ", count);
+    }
+}
+
+fn say_refusals(refusals: &[u32; 17]) {
+    let mut row: usize = 1;
+    while row < 17 {
+        say_refusal(row as u32, refusals[row]);
+        row += 1;
+    }
+}
+
+// A file replayed, or the sentence why it is not.
+fn replay_file(file: &[u8]) {
+    if file.len() < 4 {
+        say(b"The file answers is cut or cannot be read: it has no count of records.\n");
+        return;
+    }
+    if records::MOST < file.len() {
+        say(b"The file answers has more than 524288 bytes.\n");
+        return;
+    }
+    say_totals(replay_all(file));
+}
+
+// One byte more is read than a file may have, so that a longer one shows.
+fn main() {
+    let path = b"answers";
+    let fd = os::open_read(path);
+    if fd < 0 {
+        os::fail(path);
+        say(b"The file answers cannot be read.\n");
+        return;
+    }
+    let mut file = [0u8; 524289];
+    let size = io::read_full(fd, &mut file);
+    libc::close(fd);
+    replay_file(&file[..size]);
+}
