@@ -1,6 +1,6 @@
 -- What a table in order says of a search: its rest from any place on is in order, no exon ends past the size, and none holds a base that lies before
 -- them all. Assumes nothing.
-use mathlib.Core.Path.{_≡_, refl, subst}
+use mathlib.Core.Path.{_≡_, refl, subst, _∙_}
 use mathlib.Core.Bool.{Bool, true, false, _&&_}
 use mathlib.Core.List.{List, [], _∷_}
 use Prim.Native.Nat.{ℕ, zero, suc, _≤_, _<_}
@@ -75,6 +75,33 @@ module _ (p : ℕ) (x : Exon) (xs l : List Exon) (next : l ≡ x ∷ xs) where
       let w : exonsInOrder (o .size) 0 (x ∷ xs) ≡ true = rw next at (o .ordered) in
       let e : x .start .0 < x .end .0 = ends-after (o .size) 0 x xs w in
       rw (next, lt-leb (x .start .0) p h, none-before p (o .size) (x .end .0) xs (rest-in-order (o .size) 0 x xs w) (omega arith))
+
+-- an exon at place k of exons that start at or after `before` ends past it
+ends-later : (size before k : ℕ) (l : List Exon) (x : Exon) (xs : List Exon) → exonsInOrder size before l ≡ true → drop k l ≡ x ∷ xs → before < x .end .0
+ends-later size before zero l x xs o next =
+    let w : exonsInOrder size before (x ∷ xs) ≡ true = rw next at o in
+    omega (arith, starts-after size before x xs w, ends-after size before x xs w)
+ends-later size before (suc k) [] x xs o next =
+    let z : _≡_ {A = ℕ} 0 1 = cc in
+    absurd (omega arith)
+ends-later size before (suc k) (y ∷ l) x xs o next =
+    omega (arith, starts-after size before y l o, ends-after size before y l o, ends-later size (y .end .0) k l x xs (rest-in-order size before y l o) next)
+
+-- where the exon at place k ends at or before the base, so do all before it
+pub held-behind : (p size before k : ℕ) (l : List Exon) (x : Exon) (xs : List Exon) → exonsInOrder size before l ≡ true → drop k l ≡ x ∷ xs → x .end .0 ≤ p
+    → exonHolding p l ≡ exonHolding p xs
+held-behind p size before zero l x xs o next h = held-after p x xs l next h
+held-behind p size before (suc k) [] x xs o next h =
+    let z : _≡_ {A = ℕ} 0 1 = cc in
+    absurd (omega arith)
+held-behind p size before (suc k) (y ∷ l) x xs o next h =
+    let rest = rest-in-order size before y l o in
+    held-after p y l (y ∷ l) refl (omega (arith, ends-later size (y .end .0) k l x xs rest next)) ∙ held-behind p size (y .end .0) k l x xs rest next h
+
+-- the first of some exons, if there is one, ends past the base
+abbrev pub EndsPast : ℕ → List Exon → Type 0
+EndsPast p [] = Unit
+EndsPast p (x ∷ xs) = p < x .end .0
 
 -- no exon of a table in order ends past its size
 pub ends-within : (size before : ℕ) (xs : List Exon) → exonsInOrder size before xs ≡ true → before ≤ size

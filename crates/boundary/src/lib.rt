@@ -122,24 +122,32 @@ pub fn tables_hold(table: &[u8], cds_start: Bound, cds_end: Bound, size: usize) 
     bounds_in_order(cds_start, cds_end)
 }
 
-// The exon that holds a base, in a table in order: the first that ends past the base, if it starts at or before it.
+// The exon that holds a base, in a table in order: the first that ends past the base, if it starts at or before it. It is found by halves: the
+// exons before `from` end at or before the base, the one at `to` ends past it.
 pub fn exon_holding(table: &[u8], base: Zero) -> ExonFound
     requires { ⌜ InOrder (piecesOf (now table)) ⌝ }
     ensures { λ r. ⌜ r ≡ exonHolding (base .0) (piecesOf (now (table .entry))) ⌝ }
 {
     let exons = table.len() / 8;
-    let mut i = 0;
-    while i < exons {
-        let exon = exon_at(table, i);
+    let mut from = 0;
+    let mut to = exons;
+    while from < to {
+        let middle = (from + to) / 2;
+        let exon = exon_at(table, middle);
         if base.0 < exon.end.0 {
-            if exon.start.0 <= base.0 {
-                return ExonFound::Holding(exon);
-            }
-            return ExonFound::NoExon;
+            to = middle;
+        } else {
+            from = middle + 1;
         }
-        i += 1;
     }
-    ExonFound::NoExon
+    if from == exons {
+        return ExonFound::NoExon;
+    }
+    let exon = exon_at(table, from);
+    if base.0 < exon.start.0 {
+        return ExonFound::NoExon;
+    }
+    ExonFound::Holding(exon)
 }
 
 // Rows 12 to 14: the exon of the first base and that of the last make a piece if they are one exon.

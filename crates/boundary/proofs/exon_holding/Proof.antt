@@ -1,44 +1,35 @@
--- `boundary::exon_holding` meets its contract. The invariant: the exons from place i on hold the base where the table does. Of the first exon that ends
--- past the base the order says that no later one holds it. The measure is the exons left. Assumes nothing.
-use mathlib.Core.Path.{_≡_, refl, sym, _∙_}
-use Prim.Native.Nat.{_≤_, _-_}
+-- `boundary::exon_holding` meets its contract. The invariant: the exons from place `from` on hold the base where the table does, and the one at `to`
+-- ends past it. The measure is the places between the two. Assumes nothing.
+use mathlib.Core.Path.{_≡_, refl, sym, subst, _∙_}
+use Prim.Native.Nat.{ℕ, _+_, _-_, _/_, _≤_}
 use native.Mathlib.Omega.{arith}
-use lib.ListN.{drop}
+use lib.ListN.{length, drop}
 use Rattle.definition.specs.Piece.{exonsIn, piecesOf, exonHolding}
 use Rattle.boundary.proofs.Pairs.{no-more}
-use Rattle.boundary.proofs.Order.{in-order-drop, held-here, held-after, held-nowhere}
+use Rattle.boundary.proofs.Order.{EndsPast, in-order-drop, held-here, held-behind, held-nowhere}
 use Rattle.boundary.proofs.exon_holding.Statement.{statement}
 use Rattle.boundary.proofs.exon_holding.Tie as tie
 
 abbrev Inv-loop : tie.InvT-loop
-Inv-loop table base exons i₀ i = (i ≤ exons) × (exonHolding (base .0) (drop i (exonsIn table)) ≡ exonHolding (base .0) (exonsIn table))
+Inv-loop table base exons from₀ to₀ from to =
+    (from ≤ to)
+    × (to ≤ exons)
+    × (exonHolding (base .0) (drop from (exonsIn table)) ≡ exonHolding (base .0) (exonsIn table))
+    × EndsPast (base .0) (drop to (exonsIn table))
 
 abbrev μ-loop : tie.MeasureT-loop
-μ-loop table base exons i₀ i = exons - i
+μ-loop table base exons from₀ to₀ from to = to - from
 
 loop-holds : tie.Need-loop-holds Inv-loop μ-loop
-loop-holds c = (omega arith, refl)
+loop-holds c =
+    let table = c .before .args .table .now in
+    (omega arith, omega arith, refl, rw (no-more table (length table / 8) (omega arith)) tt)
+
+add-middle : tie.Need-add-middle Inv-loop μ-loop
+add-middle c = omega arith
 
 exon-at-requires : tie.Need-exon-at-requires Inv-loop μ-loop
 exon-at-requires c κs = omega arith
-
-returns : tie.Need-returns Inv-loop μ-loop
-unfolding piecesOf
-returns c =
-    let turn = c .before .before .before .before .before .before in
-    held-here _ _ _ _ (turn .exon-at .ensures) (c .if2 .taken) (c .before .before .before .if1 .taken) ∙ turn .before .before .loop .inv .1
-
-returns-2 : tie.Need-returns-2 Inv-loop μ-loop
-unfolding piecesOf
-returns-2 c =
-    let turn = c .before .before .before .before .before .before in
-    let top = turn .before .before in
-    let start = top .before .before in
-    let ordered = in-order-drop (top .loop .i) (exonsIn (start .args .table .now)) (start .pre) in
-    held-nowhere _ _ _ _ (turn .exon-at .ensures) ordered (c .if2 .left) ∙ top .loop .inv .1
-
-add-i : tie.Need-add-i Inv-loop μ-loop
-add-i c = omega arith
 
 loop-less : tie.Need-loop-less Inv-loop μ-loop
 loop-less c = omega arith
@@ -46,11 +37,58 @@ loop-less c = omega arith
 loop-again : tie.Need-loop-again Inv-loop μ-loop
 loop-again c =
     let turn = c .before .before .before in
-    (omega arith, sym (held-after _ _ _ _ (turn .exon-at .ensures) (c .if1 .left)) ∙ turn .before .before .loop .inv .1)
+    let loop = turn .before .before .loop in
+    (omega arith, omega arith, loop .inv .2, rw (turn .exon-at .ensures) (c .if1 .taken))
+
+add-from : tie.Need-add-from Inv-loop μ-loop
+add-from c = omega arith
+
+loop-less-2 : tie.Need-loop-less-2 Inv-loop μ-loop
+loop-less-2 c = omega arith
+
+loop-again-2 : tie.Need-loop-again-2 Inv-loop μ-loop
+unfolding piecesOf
+loop-again-2 c =
+    let turn = c .before .before .before in
+    let top = turn .before .before in
+    let start = top .before .before in
+    let ordered = start .pre in (
+      omega arith,
+      omega arith,
+      sym (held-behind _ (ordered .size) 0 ((top .loop .from + top .loop .to) / 2) (exonsIn (start .args .table .now)) _ _ (ordered .ordered) (turn .exon-at .ensures) (c .if1 .left)),
+      top .loop .inv .3,
+    )
+
+returns : tie.Need-returns Inv-loop μ-loop
+unfolding piecesOf
+returns c =
+    let top = c .before .before in
+    rw (no-more (top .before .before .args .table .now) (top .loop .from) (omega arith)) at (top .loop .inv .2)
+
+exon-at-requires-2 : tie.Need-exon-at-requires-2 Inv-loop μ-loop
+exon-at-requires-2 c κs =
+    let differs = c .if2 .left in
+    omega arith
+
+returns-2 : tie.Need-returns-2 Inv-loop μ-loop
+unfolding piecesOf
+returns-2 c =
+    let turn = c .before .before .before in
+    let top = turn .before .before .before in
+    let start = top .before .before in
+    let ordered = in-order-drop (top .loop .from) (exonsIn (start .args .table .now)) (start .pre) in
+    held-nowhere _ _ _ _ (turn .exon-at2 .ensures) ordered (c .if3 .taken) ∙ top .loop .inv .2
 
 returns-3 : tie.Need-returns-3 Inv-loop μ-loop
 unfolding piecesOf
-returns-3 c = rw (no-more (c .before .before .before .args .table .now) (c .before .loop .i) (c .loop-test .left)) at (c .before .loop .inv .1)
+returns-3 c =
+    let turn = c .before .before .before in
+    let left = turn .before .before in
+    let top = left .before in
+    let exons = exonsIn (top .before .before .args .table .now) in
+    let met : top .loop .to ≡ top .loop .from = omega arith in
+    let past = subst (λ (n : ℕ). EndsPast (top .before .before .args .base .0) (drop n exons)) met (top .loop .inv .3) in
+    held-here _ _ _ _ (turn .exon-at2 .ensures) (c .if3 .left) (rw (turn .exon-at2 .ensures) at past) ∙ top .loop .inv .2
 
 pub exon-holding-spec : {M : Type 1} → statement M
 exon-holding-spec =
@@ -59,10 +97,14 @@ exon-holding-spec =
     Inv-loop
     μ-loop
     loop-holds
+    add-middle
     exon-at-requires
-    returns
-    returns-2
-    add-i
     loop-less
     loop-again
+    add-from
+    loop-less-2
+    loop-again-2
+    returns
+    exon-at-requires-2
+    returns-2
     returns-3)
