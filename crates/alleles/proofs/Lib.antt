@@ -1,6 +1,2 @@
-pub mod Laws
-pub mod Ends
-pub mod Stores
-pub mod Moves
 pub mod Trims
 pub mod Unique

@@ -6,7 +6,7 @@ use mathlib.Core.Path.{_≡_}
 use lib.ListN.{length, take, drop}
 use Rattle.alleles.specs.declared.Allele.{Allele}
 use Rattle.alleles.specs.Held.{held, Holds}
-use Rattle.alleles.proofs.Laws.{window-length}
+use Rattle.rotating.proofs.Laws.{window-length}
 
 module _ (a kept : Allele) (n : ℕ) where
   -- all but the first n are the last count - n

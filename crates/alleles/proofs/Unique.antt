@@ -1,18 +1,14 @@
 -- What each public function's contract leaves open: any two results that it allows are equal. Not fixed, and not to be seen through the
 -- window, are the bytes of the array outside it.
 -- Assumes nothing.
-use Prim.Native.Nat.{ℕ, _+_}
-use mathlib.Core.Path.{_≡_, sym, _∙_}
+use Prim.Native.Nat.{ℕ}
+use mathlib.Core.Path.{_≡_}
 use mathlib.Core.List.{List}
-use lib.ListN.{length}
+use Rattle.rotating.proofs.Unique.{equal}
 use Rattle.alleles.specs.declared.Allele.{Allele}
 use Rattle.alleles.specs.declared.Trimmed.{Trimmed}
-use Rattle.alleles.specs.Held.{window, held, Holds, StoredFront, WrittenOut}
-use Rattle.alleles.specs.Windows.{TrimmedFront, TrimmedBack, WindowedRight, WindowedLeft}
-
--- `store_back`, `common_front`, `common_back` and `copy_out` ensure one equation with what is given, of a window, a count or a list
-pub equal : {A : Type 0} {result other given : A} → result ≡ given → other ≡ given → result ≡ other
-equal e f = e ∙ sym f
+use Rattle.alleles.specs.Held.{held, Holds, WrittenOut}
+use Rattle.alleles.specs.Trims.{TrimmedFront, TrimmedBack}
 
 -- alleles that cannot be told apart
 pub record Alike (x y : Allele) : Type 0 where
@@ -24,12 +20,6 @@ pub record Alike (x y : Allele) : Type 0 where
 pub holds-alike : {x y : Allele} {place size : ℕ} {list : List ℕ} → Holds x place size list → Holds y place size list → Alike x y
 holds-alike p q =
     record { head = equal (p .head) (q .head); count = equal (p .count) (q .count); bases = equal (p .bases) (q .bases) }
-
--- `store_front`: the place, and the window from there
-pub stored-front-equal : {bytes after other part : List ℕ} {head count first place : ℕ}
-    → StoredFront bytes after part head count first → StoredFront bytes other part head count place
-    → (first ≡ place) × (window after first (count + length part) ≡ window other place (count + length part))
-stored-front-equal p q = (equal (p .place) (q .place), equal (p .front) (q .front))
 
 -- `Allele::write_out`: the count and the bytes written to
 pub written-out-equal : {allele : Allele} {out after other : List ℕ} {m n : ℕ}
@@ -51,16 +41,3 @@ pub trimmed-back-same : {a b : Allele} {t u : Trimmed} → TrimmedBack a b t →
 trimmed-back-same p q =
     let e = equal (p .count) (q .count) in
     record { count = e; left = holds-alike (p .left) (rw e (q .left)); right = holds-alike (p .right) (rw e (q .right)) }
-
--- `window_right` and `window_left`: the count and what both windows then hold
-pub windowed-right-equal : {r a chunk r₁ r₂ a₁ a₂ : List ℕ} {m n : ℕ}
-    → WindowedRight r a chunk r₁ a₁ m → WindowedRight r a chunk r₂ a₂ n → (m ≡ n) × (r₁ ≡ r₂) × (a₁ ≡ a₂)
-windowed-right-equal p q =
-    let e = equal (p .count) (q .count) in
-    (e, p .reference ∙ rw e (sym (q .reference)), p .alternative ∙ rw e (sym (q .alternative)))
-
-pub windowed-left-equal : {r a chunk r₁ r₂ a₁ a₂ : List ℕ} {m n : ℕ}
-    → WindowedLeft r a chunk r₁ a₁ m → WindowedLeft r a chunk r₂ a₂ n → (m ≡ n) × (r₁ ≡ r₂) × (a₁ ≡ a₂)
-windowed-left-equal p q =
-    let e = equal (p .count) (q .count) in
-    (e, p .reference ∙ rw e (sym (q .reference)), p .alternative ∙ rw e (sym (q .alternative)))

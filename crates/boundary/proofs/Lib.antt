@@ -1,5 +1,3 @@
-pub mod Pairs
 pub mod Order
-pub mod Rules
 pub mod Within
 pub mod Unique

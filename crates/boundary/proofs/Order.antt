@@ -15,17 +15,6 @@ use Rattle.definition.specs.Piece.{exonsInOrder, exonHolding}
 use Rattle.definition.proofs.Tests.{and-true}
 use Rattle.boundary.specs.InOrder.{InOrder}
 
--- the tests at the next exon of a table, which stand for the whole rest
-module _ (size before : ℕ) (x : Exon) (xs l : List Exon) (next : l ≡ x ∷ xs) where
-  pub starts-early : x .start .0 < before → false ≡ exonsInOrder size before l
-  starts-early h = rw (next, lt-leb before (x .start .0) h)
-
-  pub ends-early : before ≤ x .start .0 → x .end .0 ≤ x .start .0 → false ≡ exonsInOrder size before l
-  ends-early h k = rw (next, le-leb before (x .start .0) h, le-ltb (x .start .0) (x .end .0) k)
-
-  pub goes-on : before ≤ x .start .0 → x .start .0 < x .end .0 → exonsInOrder size before l ≡ exonsInOrder size (x .end .0) xs
-  goes-on h k = rw (next, le-leb before (x .start .0) h, lt-ltb (x .start .0) (x .end .0) k)
-
 -- what stands in a table whose first exon starts at or after `before`
 module _ (size before : ℕ) (x : Exon) (xs : List Exon) (ordered : exonsInOrder size before (x ∷ xs) ≡ true) where
   tests : ((leb before (x .start .0) && ltb (x .start .0) (x .end .0)) ≡ true) × (exonsInOrder size (x .end .0) xs ≡ true)

@@ -1,17 +1,9 @@
 -- Each public contract decides its result: two results that it allows are equal. Assumes nothing.
 use mathlib.Core.Path.{sym, _∙_}
 use Rattle.definition.proofs.Fixes.{Fixes}
-use Rattle.boundary.proofs.exon_at.Reads as exon-at
-use Rattle.boundary.proofs.tables_hold.Reads as tables-hold
 use Rattle.boundary.proofs.exon_holding.Reads as exon-holding
 use Rattle.boundary.proofs.get_boundary.Reads as get-boundary
 use Rattle.boundary.proofs.piece_for.Reads as piece-for
-
-pub exon-at-one : Fixes (λ κs x at. x) exon-at.Post
-exon-at-one κs a x y atX atY p q = cc
-
-pub tables-hold-one : Fixes (λ κs x at. x) tables-hold.Post
-tables-hold-one κs a x y atX atY p q = p ∙ sym q
 
 pub exon-holding-one : Fixes (λ κs x at. x) exon-holding.Post
 exon-holding-one κs a x y atX atY p q = p ∙ sym q

@@ -70,7 +70,7 @@ fn write_exons(table: &[u8]) {
     let exons = table.len() / 8;
     let mut i = 0;
     while i < exons {
-        write_exon(boundary::exon_at(table, i));
+        write_exon(tables::exon_at(table, i));
         i += 1;
     }
 }
@@ -135,7 +135,7 @@ fn found_for(
         Kind::Open => boundary::piece_for(kind, table, cds_start, cds_end, start, end),
         Kind::Crossing => boundary::piece_for(kind, table, cds_start, cds_end, start, end),
         Kind::Transcript => {
-            if boundary::tables_hold(table, cds_start, cds_end, size) {
+            if tables::tables_hold(table, cds_start, cds_end, size) {
                 return boundary::piece_for(kind, table, cds_start, cds_end, start, end);
             }
             PieceFound::NoPiece(Refusal::BadTables)

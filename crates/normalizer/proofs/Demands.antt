@@ -20,7 +20,7 @@ use Rattle.definition.specs.Demand3.{OneSetting, OnePiece}
 use Rattle.definition.proofs.Refusals.{demand-1}
 use Rattle.definition.proofs.Answers.{demand-2}
 use Rattle.definition.proofs.OneKey.{demand-3}
-use Rattle.normalizer.proofs.Spells.{read-back}
+use Rattle.spelling.proofs.Spells.{read-back}
 
 -- a refusal is a refusal of the definition, and an answer is one
 refused-only : (v : Verdict) (x : Refusal) → outcome.Refuse x ≡ outcomeOf v → v ≡ refused x

@@ -1,6 +1,3 @@
-pub mod Ways
-pub mod Moves
-pub mod Spells
 pub mod Answers
 pub mod Rows
 pub mod Unique

@@ -1,18 +1,11 @@
--- What `normalize` and its parts are asked, and the ways to an answer. Assumes nothing.
-use mathlib.Core.Path.{_≡_}
-use mathlib.Core.Bool.{false, cond, not, _&&_}
+-- What `normalize` and its parts are asked. Assumes nothing.
+use mathlib.Core.Bool.{not}
 use mathlib.Core.List.{List, [], _∷_}
 use lib.IntN.{ℤ}
-use mathlib.Core.Option.{some}
-use Prim.Native.Nat.{ℕ, _+_, _-_, _≤_, _<_}
-use lib.Dec.{eqb}
+use Prim.Native.Nat.{ℕ, _-_, _≤_, _<_}
 use lib.ListN.{length}
-use lib.Seq.{slice}
-use Rattle.definition.specs.declared.Class.{Class}
 use Rattle.definition.specs.declared.Edit.{Edit}
-use Rattle.definition.specs.declared.Edit.the-variants.{Insert, Duplicate, Delete, Replace, Invert}
 use Rattle.definition.specs.declared.Kind.{Kind}
-use Rattle.definition.specs.declared.Piece.{Piece}
 use Rattle.boundary.specs.InOrder.{ReadInOrder}
 use Rattle.definition.specs.declared.Bound.{Bound}
 use Rattle.definition.specs.declared.Direction.{Direction}
@@ -21,43 +14,8 @@ use Rattle.definition.specs.Change.{spelled}
 use Rattle.definition.specs.Request.{Request}
 use Rattle.definition.specs.Piece.{pieceFor}
 use Rattle.definition.specs.Verdict.{Row, Verdict, firstGiven, refusedOr, afterShortcuts, shortcut, misfits, exceeds, readAlternative, cramped, tablesBroken}
-use Rattle.definition.specs.Bases.{allBases, sameBases}
-use Rattle.definition.specs.Answer.{Named}
-use Rattle.normalizer.specs.declared.Way.{Way}
-use Rattle.normalizer.specs.declared.Way.the-variants.{Same, Single, Later}
-
--- the way of a replacement, and of any edit
-unfoldable pub replacedWay : List ℕ → List ℕ → Way
-replacedWay reference alternative =
-    cond (sameBases reference alternative) Same (cond (eqb (length reference) 1 && eqb (length alternative) 1) Single Later)
-
-unfoldable pub wayOf : Edit → List ℕ → ℕ → ℕ → List ℕ → Way
-wayOf Insert target start end alternative = Later
-wayOf Duplicate target start end alternative = Later
-wayOf Delete target start end alternative = Later
-wayOf Replace target start end alternative = replacedWay (slice start end target) alternative
-wayOf Invert target start end alternative = Later
-
--- a change that is answered in place, by its range and both alleles
-abbrev pub inPlace : Class → List ℕ → ℕ → ℕ → List ℕ → Named
-inPlace class target start end alternative =
-    record { class = class; start = start + 1; end = end; reference = slice start end target; alternative = alternative }
-
--- a range that passes rows 5 and 7, in a piece that holds it, and a window that passes row 2
-pub record Ranged (piece : Piece) (target : List ℕ) (start end window : ℕ) : Type 0 where
-  pub ordered : start < end
-  pub inTarget : end ≤ length target
-  pub short : length target ≤ 65535
-  pub range : end - start ≤ 1024
-  pub left : piece .left .0 ≤ start
-  pub right : end ≤ piece .right .0
-  pub some : 1 ≤ window
-  pub most : window ≤ 1024
-
--- an alternative that passes rows 6 and 7
-pub record Read (edit : Edit) (start end : ℕ) (alternative : List ℕ) : Type 0 where
-  pub fits : misfits edit start end alternative ≡ false
-  pub size : length (readAlternative edit alternative) ≤ 1024
+use Rattle.definition.specs.Bases.{allBases}
+use Rattle.spelling.specs.Asked.{Read}
 
 -- a request that passes rows 1 to 10
 pub record Passed (target : List ℕ) (kind : Kind) (exons : List ℕ) (start end : ℕ) (edit : Edit) (alternative : List ℕ) (window : ℕ) : Type 0 where

@@ -1,298 +1,27 @@
-// `normalize`: rows 1 to 10 in order, the two requests that are answered at once, the piece, the move and the result. Nothing is left to the
+// `normalize`: rows 1 to 10 in order, then the requests that are answered at once, the piece and what is spelled there. Nothing is left to the
 // caller to check. `normalize_checked` is for a caller that has checked the target once and asks often.
 ghost use mathlib.Core.Path.{_≡_};
 ghost use mathlib.Core.Bool.{true, false};
-ghost use mathlib.Core.List.{[]};
-ghost use Prim.Native.Nat.{_+_, _-_, _<_, _≤_};
+ghost use Prim.Native.Nat.{_<_, _≤_};
 ghost use lib.ListN.{length};
-ghost use lib.Seq.{slice};
 ghost use Rattle.definition.specs.Bases.{allBases};
-ghost use Rattle.definition.specs.declared.Edit.the-variants.{Invert};
 ghost use Rattle.definition.specs.Change.{spelled};
 ghost use Rattle.definition.specs.Piece.{pieceFor};
-ghost use Rattle.definition.specs.Verdict.{answered, answerAtOnce, movedIn, afterPiece, afterShortcuts, shortcut, sizeOutside, verdict};
+ghost use Rattle.definition.specs.Verdict.{afterPiece, afterShortcuts, shortcut, sizeOutside, verdict};
 ghost use Rattle.definition.specs.Reply.{Met};
-ghost use Rattle.shuffle.specs.Shuffle.{Asked};
 ghost use Rattle.results.specs.Asked.{Room};
-ghost use Rattle.normalizer.specs.Asked.{replacedWay, wayOf, inPlace, Ranged, Read, Passed, asked, rangeVerdict};
-use definition::Answered;
+ghost use Rattle.normalizer.specs.Asked.{Passed, asked, rangeVerdict};
 use definition::Bound;
 use definition::Class;
 use definition::Direction;
 use definition::Edit;
 use definition::Kind;
 use definition::Outcome;
-use definition::Piece;
 use definition::PieceFound;
 use definition::Refusal;
 use definition::Zero;
 use rows::Range;
-
-// How a request that passes the rows is answered: at once, as a replacement by the same bases or of one base by one other, or later, in its
-// piece.
-pub enum Way {
-    Same,
-    Single,
-    Later,
-}
-
-// The way of a request. Only a replacement is answered at once.
-fn way_of(edit: Edit, target: &[u8], start: Zero, end: Zero, alternative: &[u8]) -> Way
-    requires { ⌜ (start .0 < end .0) × (end .0 ≤ length (now target)) ⌝ }
-    ensures { λ r. ⌜ r ≡ wayOf edit (now (target .entry)) (start .0) (end .0) (now (alternative .entry)) ⌝ }
-{
-    match edit {
-        Edit::Insert => Way::Later,
-        Edit::Duplicate => Way::Later,
-        Edit::Delete => Way::Later,
-        Edit::Replace => replaced(target, start, end, alternative),
-        Edit::Invert => Way::Later,
-    }
-}
-
-// The way of a replacement.
-fn replaced(target: &[u8], start: Zero, end: Zero, alternative: &[u8]) -> Way
-    requires { ⌜ (start .0 < end .0) × (end .0 ≤ length (now target)) ⌝ }
-    ensures { λ r. ⌜ r ≡ replacedWay (slice (start .0) (end .0) (now (target .entry))) (now (alternative .entry)) ⌝ }
-{
-    let from = start.0;
-    let to = end.0;
-    let reference = &target[from..to];
-    if sequences::same_bases(reference, alternative) {
-        return Way::Same;
-    }
-    if to - from != 1 {
-        return Way::Later;
-    }
-    if alternative.len() != 1 {
-        return Way::Later;
-    }
-    Way::Single
-}
-
-// The change that a request spells, moved in its piece and named there.
-fn moved(
-    target: &[u8],
-    kind: Kind,
-    direction: Direction,
-    piece: Piece,
-    from: Zero,
-    to: Zero,
-    inserted: &[u8],
-    window: usize,
-    reference_out: &mut [u8],
-    alternative_out: &mut [u8],
-) -> Outcome
-    requires { ⌜ Asked piece (now target) (record { from = from .0; to = to .0; inserted = now inserted }) window ⌝ }
-    requires { ⌜ (1 ≤ length (now target)) × (length (now target) ≤ 65535) ⌝ }
-    requires { ⌜ Room (now «reference_out») (now «alternative_out») ⌝ }
-    ensures { λ r. ⌜ Met
-        (movedIn direction kind piece (now (target .entry)) (record { from = from .0; to = to .0; inserted = now (inserted .entry) }))
-        r (now («reference_out» .entry)) (now («reference_out» .exit)) (now («alternative_out» .entry)) (now («alternative_out» .exit)) ⌝ }
-{
-    match direction {
-        Direction::Rightward => {
-            let s = shuffle::normalize_alleles_5_to_3(target, piece, from, to, inserted, window);
-            let size = s.reference.count;
-            let alternative = s.alternative;
-            let head = alternative.head;
-            let count = alternative.count;
-            results::build_result(
-                target,
-                kind,
-                direction,
-                piece,
-                s.place,
-                s.probes,
-                size,
-                &alternative.bytes,
-                head,
-                count,
-                reference_out,
-                alternative_out,
-            )
-        }
-        Direction::Leftward => {
-            let s = shuffle::normalize_alleles_3_to_5(target, piece, from, to, inserted, window);
-            let size = s.reference.count;
-            let alternative = s.alternative;
-            let head = alternative.head;
-            let count = alternative.count;
-            results::build_result(
-                target,
-                kind,
-                direction,
-                piece,
-                s.place,
-                s.probes,
-                size,
-                &alternative.bytes,
-                head,
-                count,
-                reference_out,
-                alternative_out,
-            )
-        }
-    }
-}
-
-// An inversion: the reverse complement of the range takes its place.
-fn inverted(
-    target: &[u8],
-    kind: Kind,
-    direction: Direction,
-    piece: Piece,
-    start: Zero,
-    end: Zero,
-    window: usize,
-    reference_out: &mut [u8],
-    alternative_out: &mut [u8],
-) -> Outcome
-    requires { ⌜ Ranged piece (now target) (start .0) (end .0) window ⌝ }
-    requires { ⌜ Room (now «reference_out») (now «alternative_out») ⌝ }
-    ensures { λ r. ⌜ Met
-        (movedIn direction kind piece (now (target .entry)) (spelled Invert (now (target .entry)) (start .0) (end .0) []))
-        r (now («reference_out» .entry)) (now («reference_out» .exit)) (now («alternative_out» .entry)) (now («alternative_out» .exit)) ⌝ }
-{
-    let from = start.0;
-    let to = end.0;
-    let mut buffer = [0u8; 1024];
-    let size = sequences::revcomp(&target[from..to], &mut buffer);
-    moved(
-        target,
-        kind,
-        direction,
-        piece,
-        start,
-        end,
-        &buffer[..size],
-        window,
-        reference_out,
-        alternative_out,
-    )
-}
-
-// The change that each edit spells. An insertion goes in behind its first flanking base, a duplication's copy behind its range.
-fn spell(
-    target: &[u8],
-    kind: Kind,
-    direction: Direction,
-    piece: Piece,
-    start: Zero,
-    end: Zero,
-    edit: Edit,
-    alternative: &[u8],
-    window: usize,
-    reference_out: &mut [u8],
-    alternative_out: &mut [u8],
-) -> Outcome
-    requires { ⌜ Ranged piece (now target) (start .0) (end .0) window ⌝ }
-    requires { ⌜ Read edit (start .0) (end .0) (now alternative) ⌝ }
-    requires { ⌜ Room (now «reference_out») (now «alternative_out») ⌝ }
-    ensures { λ r. ⌜ Met
-        (movedIn direction kind piece (now (target .entry)) (spelled edit (now (target .entry)) (start .0) (end .0) (now (alternative .entry))))
-        r (now («reference_out» .entry)) (now («reference_out» .exit)) (now («alternative_out» .entry)) (now («alternative_out» .exit)) ⌝ }
-{
-    match edit {
-        Edit::Insert => {
-            let gap = Zero(start.0 + 1);
-            moved(
-                target,
-                kind,
-                direction,
-                piece,
-                gap,
-                gap,
-                alternative,
-                window,
-                reference_out,
-                alternative_out,
-            )
-        }
-        Edit::Duplicate => {
-            let from = start.0;
-            let to = end.0;
-            moved(
-                target,
-                kind,
-                direction,
-                piece,
-                end,
-                end,
-                &target[from..to],
-                window,
-                reference_out,
-                alternative_out,
-            )
-        }
-        Edit::Delete => moved(
-            target,
-            kind,
-            direction,
-            piece,
-            start,
-            end,
-            &target[..0],
-            window,
-            reference_out,
-            alternative_out,
-        ),
-        Edit::Replace => moved(
-            target,
-            kind,
-            direction,
-            piece,
-            start,
-            end,
-            alternative,
-            window,
-            reference_out,
-            alternative_out,
-        ),
-        Edit::Invert => inverted(
-            target,
-            kind,
-            direction,
-            piece,
-            start,
-            end,
-            window,
-            reference_out,
-            alternative_out,
-        ),
-    }
-}
-
-// An answer given at once: the range as it is, with its bases and the alternative.
-fn answer_in_place(
-    class: Class,
-    target: &[u8],
-    start: Zero,
-    end: Zero,
-    alternative: &[u8],
-    reference_out: &mut [u8],
-    alternative_out: &mut [u8],
-) -> Outcome
-    requires { ⌜ (start .0 < end .0) × (end .0 ≤ length (now target)) × (length (now target) ≤ 65535) ⌝ }
-    requires { ⌜ (end .0 - start .0 ≤ 1024) × (length (now alternative) ≤ 1024) ⌝ }
-    requires { ⌜ Room (now «reference_out») (now «alternative_out») ⌝ }
-    ensures { λ r. ⌜ Met
-        (answered (answerAtOnce (inPlace class (now (target .entry)) (start .0) (end .0) (now (alternative .entry)))))
-        r (now («reference_out» .entry)) (now («reference_out» .exit)) (now («alternative_out» .entry)) (now («alternative_out» .exit)) ⌝ }
-{
-    let from = start.0;
-    let to = end.0;
-    results::write_part(&target[from..to], reference_out);
-    results::write_part(alternative, alternative_out);
-    Outcome::Answer(Answered {
-        class: class,
-        start: codes::one_based(start),
-        end: codes::before_gap(end),
-        probes: 0,
-        reference_size: to - from,
-        alternative_size: alternative.len(),
-    })
-}
+use shortcuts::Way;
 
 // A request that is not answered at once: rows 12 to 15, and the change in its piece.
 fn answer_in_piece(
@@ -318,7 +47,7 @@ fn answer_in_piece(
         r (now («reference_out» .entry)) (now («reference_out» .exit)) (now («alternative_out» .entry)) (now («alternative_out» .exit)) ⌝ }
 {
     match boundary::piece_for(kind, exons, cds_start, cds_end, start, end) {
-        PieceFound::InPiece(piece) => spell(
+        PieceFound::InPiece(piece) => spelling::spell(
             target,
             kind,
             direction,
@@ -359,9 +88,9 @@ fn answer_passed(
         (shortcut edit (now (target .entry)) (start .0) (end .0) (now (alternative .entry))))
         r (now («reference_out» .entry)) (now («reference_out» .exit)) (now («alternative_out» .entry)) (now («alternative_out» .exit)) ⌝ }
 {
-    let way = way_of(edit, target, start, end, alternative);
+    let way = shortcuts::way_of(edit, target, start, end, alternative);
     match way {
-        Way::Same => answer_in_place(
+        Way::Same => shortcuts::answer_in_place(
             Class::Unchanged,
             target,
             start,
@@ -370,7 +99,7 @@ fn answer_passed(
             reference_out,
             alternative_out,
         ),
-        Way::Single => answer_in_place(
+        Way::Single => shortcuts::answer_in_place(
             Class::Replacement,
             target,
             start,

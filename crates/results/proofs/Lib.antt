@@ -1,8 +1,3 @@
-pub mod Compared
-pub mod Inverted
-pub mod Parts
-pub mod Copies
-pub mod Names
 pub mod Rules
 pub mod Anchors
 pub mod Verdicts

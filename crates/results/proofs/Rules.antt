@@ -18,9 +18,10 @@ use Rattle.definition.specs.Answer.{Named, replacedOrUnchanged, firstBaseRule, 
 use Rattle.definition.proofs.Tests.{same-refl}
 use Rattle.sequences.proofs.SameBases.{not-as-long}
 use Rattle.definition.proofs.Tests.{and-false}
-use Rattle.results.specs.declared.Anchor.the-variants.{Alone, First, Last}
-use Rattle.results.specs.declared.Called.{Called}
-use Rattle.results.specs.Called.{calledIn, Calls, FirstClass}
+use Rattle.classes.specs.declared.Anchor.the-variants.{Alone, First, Last}
+use Rattle.classes.specs.declared.Called.{Called}
+use Rattle.classes.specs.Called.{calledIn, Calls}
+use Rattle.results.specs.Rules.{FirstClass}
 
 pub class-unchanged : (first bases : List ℕ) → length bases ≡ 0 → Unchanged ≡ replacedOrUnchanged first (bases ++ first)
 unfolding replacedOrUnchanged

@@ -15,11 +15,12 @@ use Rattle.definition.specs.declared.Outcome.the-variants.{Answer, Refuse}
 use Rattle.definition.specs.Answer.{Named, named, firstBaseRule, lastBaseRule, leavesTarget}
 use Rattle.definition.specs.Verdict.{answered, answeredOr16, namedAt}
 use Rattle.definition.specs.Reply.{written, outcomeOf, referenceOut, alternativeOut, Met}
-use Rattle.alleles.specs.Held.{window}
-use Rattle.alleles.proofs.Laws.{window-take}
+use Rattle.rotating.specs.Window.{window}
+use Rattle.rotating.proofs.Laws.{window-take}
 use Rattle.definition.proofs.Parts.{slice-size}
-use Rattle.results.specs.declared.Called.{Called}
-use Rattle.results.specs.Called.{anchored, calledIn, reported}
+use Rattle.classes.specs.declared.Called.{Called}
+use Rattle.classes.specs.Called.{anchored, calledIn}
+use Rattle.results.specs.Rules.{reported}
 
 -- the bases that are kept are the same of the window and of its beginning
 pub called-kept : (target bytes : List ℕ) (head count : ℕ) (n : Called) → n .«alternative_size» ≤ count

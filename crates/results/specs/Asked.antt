@@ -1,18 +1,9 @@
--- What the caller shows of a change at its final place. Assumes nothing.
+-- What the caller shows of the answer buffers, and of what is called. Assumes nothing.
 use Prim.Native.Nat.{ℕ, _+_, _≤_}
 use mathlib.Core.List.{List}
 use lib.ListN.{length}
-use Rattle.alleles.specs.Held.{Placed}
-use Rattle.results.specs.declared.Called.{Called}
-
--- the reference lies in the target, the alternative in its buffer, and both alleles are as short as a request's
-pub record Settled (target : List ℕ) (place referenceSize head count : ℕ) : Type 0 where
-  pub nonempty : 1 ≤ length target
-  pub short : length target ≤ 65535
-  pub inTarget : place + referenceSize ≤ length target
-  pub reference : referenceSize ≤ 1024
-  pub placed : Placed head count
-  pub alternative : count ≤ 1024
+use Rattle.rotating.specs.Window.{Placed}
+use Rattle.classes.specs.declared.Called.{Called}
 
 -- each answer buffer holds an allele and one base more
 pub record Room (referenceOut alternativeOut : List ℕ) : Type 0 where

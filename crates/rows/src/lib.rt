@@ -136,7 +136,7 @@ pub fn bad_tables(kind: Kind, exons: &[u8], cds_start: Bound, cds_end: Bound, si
 {
     match kind {
         Kind::Open => false,
-        Kind::Transcript => !boundary::tables_hold(exons, cds_start, cds_end, size),
+        Kind::Transcript => !tables::tables_hold(exons, cds_start, cds_end, size),
         Kind::Crossing => false,
     }
 }

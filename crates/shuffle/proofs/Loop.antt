@@ -13,8 +13,9 @@ use Rattle.definition.specs.Change.{splice}
 use Rattle.definition.specs.Piece.{pieceFrom}
 use Rattle.definition.specs.Place.{rightEdge}
 use Rattle.alleles.specs.declared.Allele.{Allele}
-use Rattle.alleles.specs.Held.{window, held}
-use Rattle.alleles.proofs.Laws.{window-length}
+use Rattle.rotating.specs.Window.{window}
+use Rattle.alleles.specs.Held.{held}
+use Rattle.rotating.proofs.Laws.{window-length}
 use Rattle.shuffle.specs.declared.Stepped.{Stepped}
 use Rattle.shuffle.specs.Shuffle.{SteppedRight, SteppedLeft, Poised, Slid}
 use Rattle.shuffle.proofs.Standing.{extra, added}

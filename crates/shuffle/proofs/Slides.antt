@@ -20,7 +20,7 @@ use Rattle.definition.proofs.Prefixes.{lcp-le-left, lcp-le-right, lcs-le-left, 
 use Rattle.definition.proofs.Places.{length-splice, splice-lcp, splice-lcs, from-edge, to-edge}
 use Rattle.definition.proofs.Parts.{counted-part}
 use Rattle.shuffle.proofs.Standing.{Stands, extra, added, shorter}
-use Rattle.alleles.specs.Windows.{WindowedRight, WindowedLeft}
+use Rattle.rotating.specs.Moves.{WindowedRight, WindowedLeft}
 use Rattle.shuffle.proofs.Steps.{At, onwards, backwards, step-right, step-left}
 
 -- what was inserted is a part of the altered sequence

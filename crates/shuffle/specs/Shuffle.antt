@@ -11,7 +11,7 @@ use Rattle.definition.specs.Change.{Change, splice, altered, trimmed}
 use Rattle.definition.specs.Place.{rightEdge, furthest, stoppedByBase, placeOf, probesOf}
 use Rattle.alleles.specs.declared.Allele.{Allele}
 use Rattle.alleles.specs.Held.{held, Good}
-use Rattle.alleles.specs.Windows.{WindowedRight, WindowedLeft}
+use Rattle.rotating.specs.Moves.{WindowedRight, WindowedLeft}
 use Rattle.shuffle.specs.declared.Shuffled.{Shuffled}
 use Rattle.shuffle.specs.declared.Stepped.{Stepped}
 

@@ -8,7 +8,8 @@ ghost use lib.Seq.{slice};
 ghost use Rattle.definition.specs.declared.Direction.the-variants.{Rightward, Leftward};
 ghost use Rattle.definition.specs.Change.{trimmedFront, trimmedEnd};
 ghost use Rattle.definition.specs.Piece.{pieceFrom};
-ghost use Rattle.alleles.specs.Held.{window, held, Placed};
+ghost use Rattle.rotating.specs.Window.{window, Placed};
+ghost use Rattle.alleles.specs.Held.{held};
 ghost use Rattle.shuffle.specs.Shuffle.{SteppedRight, SteppedLeft, Asked, Poised, Slid, Settled};
 use alleles::Allele;
 use definition::Direction;
@@ -64,7 +65,7 @@ fn normalize_alleles_right_inner(
     let size = least(most, edge - from);
     let to = from + size;
     let chunk = &target[from..to];
-    let moved = alleles::window_right(r, rh, rn, a, ah, an, chunk);
+    let moved = rotating::window_right(r, rh, rn, a, ah, an, chunk);
     Stepped {
         size: size,
         moved: moved,
@@ -98,7 +99,7 @@ fn normalize_alleles_left_inner(
     let size = least(most, place - edge);
     let from = place - size;
     let chunk = &target[from..place];
-    let moved = alleles::window_left(r, rh, rn, a, ah, an, chunk);
+    let moved = rotating::window_left(r, rh, rn, a, ah, an, chunk);
     Stepped {
         size: size,
         moved: moved,

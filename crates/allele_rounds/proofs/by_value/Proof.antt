@@ -5,7 +5,7 @@ use native.Mathlib.Omega.{arith}
 use borrow.Author.Needs.{needs}
 use Rattle.definition.proofs.Prefixes.{lcp-le-right}
 use Rattle.alleles.specs.Held.{held, Good}
-use Rattle.alleles.proofs.Laws.{window-length}
+use Rattle.rotating.proofs.Laws.{window-length}
 use Rattle.allele_rounds.proofs.by_value.Statement.{statement}
 use Rattle.allele_rounds.proofs.by_value.Tie as tie
 

@@ -5,7 +5,7 @@ use Prim.Native.Nat.{ℕ, _+_, _-_, _/_, _≤_}
 use native.Mathlib.Omega.{arith}
 use lib.ListN.{length, drop}
 use Rattle.definition.specs.Piece.{exonsIn, piecesOf, exonHolding}
-use Rattle.boundary.proofs.Pairs.{no-more}
+use Rattle.tables.proofs.Pairs.{no-more}
 use Rattle.boundary.proofs.Order.{EndsPast, in-order-drop, held-here, held-behind, held-nowhere}
 use Rattle.boundary.proofs.exon_holding.Statement.{statement}
 use Rattle.boundary.proofs.exon_holding.Tie as tie

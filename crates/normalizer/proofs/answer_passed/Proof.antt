@@ -4,9 +4,9 @@ use Prim.Native.Nat.{ℕ}
 use native.Mathlib.Omega.{arith}
 use lib.ListN.{length}
 use Rattle.definition.specs.Verdict.{afterShortcuts}
-use Rattle.normalizer.specs.declared.Way.the-variants.{Same, Single, Later}
-use Rattle.normalizer.proofs.Ways.{namedBy, way-named}
-use Rattle.normalizer.proofs.Answers.{way-reads}
+use Rattle.shortcuts.specs.declared.Way.the-variants.{Same, Single, Later}
+use Rattle.shortcuts.proofs.Ways.{namedBy, way-named}
+use Rattle.shortcuts.proofs.InPlace.{way-reads}
 use borrow.Author.Needs.{needs}
 use Rattle.normalizer.proofs.answer_passed.Statement.{statement}
 use Rattle.normalizer.proofs.answer_passed.Tie as tie

@@ -3,8 +3,8 @@ use native.Mathlib.Omega.{arith}
 use mathlib.Core.Path.{sym, _∙_}
 use Prim.Native.Nat.{_+_}
 use lib.Seq.{slice}
-use Rattle.alleles.specs.Held.{window}
-use Rattle.alleles.proofs.Laws.{window-length}
+use Rattle.rotating.specs.Window.{window}
+use Rattle.rotating.proofs.Laws.{window-length}
 use Rattle.definition.proofs.Parts.{slice-size}
 use Rattle.results.proofs.Verdicts.{called-kept, met-row-16, met-answered}
 use borrow.Author.Needs.{needs}

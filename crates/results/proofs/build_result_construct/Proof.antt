@@ -3,8 +3,8 @@ use mathlib.Core.Path.{ap, _∙_}
 use mathlib.Core.List.{List}
 use Prim.Native.Nat.{ℕ, _+_}
 use Rattle.definition.specs.Reply.{written}
-use Rattle.alleles.specs.Held.{window}
-use Rattle.alleles.proofs.Laws.{window-length}
+use Rattle.rotating.specs.Window.{window}
+use Rattle.rotating.proofs.Laws.{window-length}
 use Rattle.definition.proofs.Parts.{lent-part}
 use Rattle.results.proofs.Verdicts.{met-called}
 use borrow.Author.Needs.{needs}

@@ -4,9 +4,9 @@ use mathlib.Core.Path.{_≡_, sym}
 use mathlib.Core.List.{[], _∷_}
 use lib.ListN.{length, getD, length-append}
 use Prim.Native.Nat.{_-_}
-use Rattle.alleles.specs.Held.{window}
-use Rattle.alleles.proofs.Laws.{window-length}
-use Rattle.results.specs.declared.Anchor.the-variants.{Alone, First, Last}
+use Rattle.rotating.specs.Window.{window}
+use Rattle.rotating.proofs.Laws.{window-length}
+use Rattle.classes.specs.declared.Anchor.the-variants.{Alone, First, Last}
 use Rattle.results.proofs.Anchors.{first-base, last-base, base-behind, base-before}
 use borrow.Author.Needs.{needs}
 use Rattle.results.proofs.write_anchored.Statement.{statement}

@@ -2,7 +2,7 @@
 -- Assumes nothing.
 use borrow.Author.Needs.{needs}
 use mathlib.Core.Path.{refl}
-use Rattle.alleles.specs.Held.{window}
+use Rattle.rotating.specs.Window.{window}
 use Rattle.alleles.proofs.Allele.empty.Statement.{statement}
 use Rattle.alleles.proofs.Allele.empty.Tie as tie
 

@@ -2,7 +2,7 @@
 -- Assumes nothing.
 use borrow.Author.Needs.{needs}
 use mathlib.Core.Path.{refl}
-use Rattle.alleles.proofs.Laws.{window-last}
+use Rattle.rotating.proofs.Laws.{window-last}
 use Rattle.alleles.proofs.Allele.keep_back.Statement.{statement}
 use Rattle.alleles.proofs.Allele.keep_back.Tie as tie
 

@@ -2,7 +2,7 @@
 -- Assumes nothing.
 use borrow.Author.Needs.{needs}
 use mathlib.Core.Path.{refl, sym}
-use Rattle.alleles.proofs.Laws.{window-take}
+use Rattle.rotating.proofs.Laws.{window-take}
 use Rattle.alleles.proofs.Allele.keep_front.Statement.{statement}
 use Rattle.alleles.proofs.Allele.keep_front.Tie as tie
 

@@ -1,0 +1,5 @@
+pub mod Laws
+pub mod Ends
+pub mod Stores
+pub mod Moves
+pub mod Unique

@@ -1,0 +1,87 @@
+// The two requests that are answered at once, between rows 10 and 12: a replacement by the same bases, and a substitution of one base.
+ghost use mathlib.Core.Path.{_≡_};
+ghost use Prim.Native.Nat.{_-_, _<_, _≤_};
+ghost use lib.ListN.{length};
+ghost use lib.Seq.{slice};
+ghost use Rattle.definition.specs.Verdict.{answered, answerAtOnce};
+ghost use Rattle.definition.specs.Reply.{Met};
+ghost use Rattle.results.specs.Asked.{Room};
+ghost use Rattle.shortcuts.specs.Ways.{replacedWay, wayOf, inPlace};
+use definition::Answered;
+use definition::Class;
+use definition::Edit;
+use definition::Outcome;
+use definition::Zero;
+
+// How a request that passes the rows is answered: at once, as a replacement by the same bases or of one base by one other, or later, in its
+// piece.
+pub enum Way {
+    Same,
+    Single,
+    Later,
+}
+
+// The way of a request. Only a replacement is answered at once.
+pub fn way_of(edit: Edit, target: &[u8], start: Zero, end: Zero, alternative: &[u8]) -> Way
+    requires { ⌜ (start .0 < end .0) × (end .0 ≤ length (now target)) ⌝ }
+    ensures { λ r. ⌜ r ≡ wayOf edit (now (target .entry)) (start .0) (end .0) (now (alternative .entry)) ⌝ }
+{
+    match edit {
+        Edit::Insert => Way::Later,
+        Edit::Duplicate => Way::Later,
+        Edit::Delete => Way::Later,
+        Edit::Replace => substitution(target, start, end, alternative),
+        Edit::Invert => Way::Later,
+    }
+}
+
+// The way of a replacement: by the same bases, of one base by one other, or another.
+fn substitution(target: &[u8], start: Zero, end: Zero, alternative: &[u8]) -> Way
+    requires { ⌜ (start .0 < end .0) × (end .0 ≤ length (now target)) ⌝ }
+    ensures { λ r. ⌜ r ≡ replacedWay (slice (start .0) (end .0) (now (target .entry))) (now (alternative .entry)) ⌝ }
+{
+    let from = start.0;
+    let to = end.0;
+    let reference = &target[from..to];
+    if sequences::same_bases(reference, alternative) {
+        return Way::Same;
+    }
+    if to - from != 1 {
+        return Way::Later;
+    }
+    if alternative.len() != 1 {
+        return Way::Later;
+    }
+    Way::Single
+}
+
+// An answer given at once: the range as it is, with its bases and the alternative.
+pub fn answer_in_place(
+    class: Class,
+    target: &[u8],
+    start: Zero,
+    end: Zero,
+    alternative: &[u8],
+    reference_out: &mut [u8],
+    alternative_out: &mut [u8],
+) -> Outcome
+    requires { ⌜ (start .0 < end .0) × (end .0 ≤ length (now target)) × (length (now target) ≤ 65535) ⌝ }
+    requires { ⌜ (end .0 - start .0 ≤ 1024) × (length (now alternative) ≤ 1024) ⌝ }
+    requires { ⌜ Room (now «reference_out») (now «alternative_out») ⌝ }
+    ensures { λ r. ⌜ Met
+        (answered (answerAtOnce (inPlace class (now (target .entry)) (start .0) (end .0) (now (alternative .entry)))))
+        r (now («reference_out» .entry)) (now («reference_out» .exit)) (now («alternative_out» .entry)) (now («alternative_out» .exit)) ⌝ }
+{
+    let from = start.0;
+    let to = end.0;
+    results::write_part(&target[from..to], reference_out);
+    results::write_part(alternative, alternative_out);
+    Outcome::Answer(Answered {
+        class: class,
+        start: codes::one_based(start),
+        end: codes::before_gap(end),
+        probes: 0,
+        reference_size: to - from,
+        alternative_size: alternative.len(),
+    })
+}

@@ -1,0 +1,3 @@
+pub mod Moves
+pub mod Spells
+pub mod Unique

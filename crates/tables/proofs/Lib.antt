@@ -1,0 +1,4 @@
+pub mod Pairs
+pub mod Turns
+pub mod Rules
+pub mod Unique
