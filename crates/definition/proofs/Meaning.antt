@@ -131,7 +131,7 @@ module _ (target after : List ℕ) (q : ℕ) where
     means-inversion alt reads inv e =
         let y : q + 1 - 1 ≡ q = omega arith in
         let x : reverseComplement (slice q (q + length ref) target) ≡ alt = ap reverseComplement (reads ∙ inv) ∙ reverse-complement-twice alt in
-        record { denotes = rw (y, x) e; atFirst = λ z. absurd (omega arith); atLast = λ z. absurd (omega arith) }
+        record { denotes = rw y (ap (splice target q (q + length ref)) x ∙ e); atFirst = λ z. absurd (omega arith); atLast = λ z. absurd (omega arith) }
 
     means-replaced : (alt : List ℕ) → slice q (q + length ref) target ≡ ref → splice target q (q + length ref) alt ≡ after
         → Means target after (namedReplacement q ref alt)
