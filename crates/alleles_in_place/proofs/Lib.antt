@@ -1,0 +1,7 @@
+pub mod Facts
+pub mod Lent
+pub mod Raised
+pub mod Side
+pub mod One
+pub mod Two
+pub mod Unique
