@@ -4,7 +4,9 @@ use Rattle.rows.proofs.ordered.Statement.{statement}
 use Rattle.rows.proofs.ordered.Tie as tie
 
 returns : tie.Need-returns
-returns c = rw (le-leb _ _ (c .if1 .taken))
+returns c =
+    let asked = c .before .before .before .args in
+    rw (le-leb (asked .to .0) (asked .from .0) (c .if1 .taken))
 
 returns-2 : tie.Need-returns-2
 returns-2 c = rw (lt-leb _ _ (c .before .before .if1 .left), lt-ltb _ _ (c .if2 .taken))
