@@ -1,16 +1,14 @@
--- What a caller may rely on: a table that passes row 10 is in order, as the search asks; the piece that is found is not empty; and on a transcript it
--- ends at or before the target's end, so that row 16 is not given there. That it holds the range is `transcript-holds` of the definition.
--- Assumes nothing.
+-- What a caller may rely on: a table that passes row 10 is in order, as the search asks; and on a transcript the piece that is found ends at or before
+-- the target's end, so that row 16 is not given there. That it holds the range is `transcript-holds` of the definition. Assumes nothing.
 use mathlib.Core.Path.{_≡_, refl, subst}
 use mathlib.Core.Bool.{Bool, true, false, _&&_}
 use mathlib.Core.List.{List}
-use Prim.Native.Nat.{ℕ, _-_, _≤_, _<_, min, max}
+use Prim.Native.Nat.{ℕ, _-_, _≤_, min, max}
 use native.Mathlib.Omega.{arith}
-use borrow.Author.Tests.{le-ltb, not-false}
+use borrow.Author.Tests.{le-ltb}
 use lib.Dec.{eqb, leb}
 use lib.ListN.{length}
-use Rattle.definition.specs.declared.Kind.{Kind}
-use Rattle.definition.specs.declared.Kind.the-variants.{Open, Transcript, Crossing}
+use Rattle.definition.specs.declared.Kind.the-variants.{Transcript}
 use Rattle.definition.specs.declared.Direction.{Direction}
 use Rattle.definition.specs.declared.Direction.the-variants.{Rightward, Leftward}
 use Rattle.definition.specs.declared.Bound.{Bound}
@@ -25,10 +23,7 @@ use Rattle.definition.specs.declared.PieceFound.the-variants.{InPiece, NoPiece}
 use Rattle.definition.specs.Piece.{exonsIn, exonsInOrder, tablesHold, piecesOf, pieceFrom}
 use Rattle.definition.specs.Piece.{exonHolding, exonPiece, cutAt, transcriptPiece, pieceFor}
 use Rattle.definition.specs.Answer.{leavesTarget}
-use Rattle.definition.specs.Request.{Request, boundOf}
-use Rattle.definition.specs.Verdict.{badTables}
-use Rattle.definition.proofs.Pieces.{Holds}
-use Rattle.boundary.specs.InOrder.{InOrder, ReadInOrder}
+use Rattle.boundary.specs.InOrder.{InOrder}
 use Rattle.boundary.proofs.Order.{exon-within}
 use Rattle.definition.proofs.Tests.{and-false}
 
@@ -45,17 +40,6 @@ module _ (bytes : List ℕ) (cdsStart cdsEnd : Bound) (size : ℕ) (holds : tabl
   pub table-in-order : InOrder (piecesOf bytes)
   unfolding piecesOf
   table-in-order = record { size = size; ordered = exons-ordered }
-
--- a request that row 10 does not refuse meets what `piece_for` asks of its table
-pub row-10-passed : (r : Request) (kind : Kind) → badTables kind r ≡ false → ReadInOrder kind (r .exonBytes)
-unfolding badTables
-row-10-passed r Open passed = tt
-row-10-passed r Crossing passed = tt
-row-10-passed r Transcript passed =
-    table-in-order (r .exonBytes) (boundOf (r .cdsStart)) (boundOf (r .cdsEnd)) (length (r .target)) (not-false _ passed)
-
-pub piece-not-empty : (start end : ℕ) (found : PieceFound) → start < end → Holds start end found → (p : Piece) → found ≡ InPiece p → p .left .0 < p .right .0
-piece-not-empty start end found o h p e = omega (arith, h p e)
 
 -- a piece that ends at or before `size`
 abbrev pub Within : ℕ → PieceFound → Type 0

@@ -6,12 +6,11 @@ use mathlib.Core.List.{List, [], _∷_, _++_, head-eq-of-cons-eq}
 use Prim.Native.Nat.{ℕ, suc, _+_, _-_, _≤_, _<_, min, max}
 use native.Mathlib.Nat.{le-refl}
 use native.Mathlib.Omega.{arith}
-use lib.ListN.{length, take, drop, getD}
-use lib.Seq.{slice, slice-cons, take-suc, drop-cons, drop-drop, drop-append-le, getD-take, getD-drop, getD-append-add, length-take-le}
+use lib.ListN.{length, drop, getD}
+use lib.Seq.{take-suc, drop-cons, getD-take}
 use Rattle.definition.specs.declared.Direction.the-variants.{Rightward, Leftward}
 use Rattle.definition.specs.declared.Piece.{Piece}
 use Rattle.definition.specs.Prefix.{lcp, lcs}
-use Rattle.definition.specs.Change.{splice}
 use Rattle.definition.specs.Place.{Equivalent, Inside, rightEdge, furthest}
 use Rattle.definition.proofs.Prefixes.{lcp-take, lcp-max, lcs-drop, lcs-max, lcp-le-left, lcp-le-right}
 use Rattle.definition.proofs.Places.{equivalent→interval, interval→equivalent, to-edge}
@@ -106,25 +105,3 @@ lcp-stop xs ys n h d = end (lcp xs ys) h (λ i. d (lcp-same xs ys n i))
   where
     end : (p : ℕ) → n ≤ p → (suc n ≤ p → ⊥) → n ≡ p
     end p h j = omega arith
-
--- what stands past a change, in the altered sequence: the bases that a loop over the target compares
-pub getD-past : (target inserted : List ℕ) (from to i : ℕ) → from ≤ to → to ≤ length target
-    → getD (splice target from to inserted) (from + (length inserted + i)) 0 ≡ getD target (to + i) 0
-getD-past target inserted from to i order fits =
-    let size : length (take from target) ≡ from = length-take-le from target (omega arith) in
-    ap (λ (n : ℕ). getD (splice target from to inserted) (n + (length inserted + i)) 0) (sym size)
-    ∙ getD-append-add (take from target) (inserted ++ drop to target) (length inserted + i) 0
-    ∙ getD-append-add inserted (drop to target) i 0
-    ∙ getD-drop to target i 0
-
--- the alternative one base further on: its first base goes, and the base after it comes
-pub slice-next : (q m : ℕ) (l : List ℕ) → 1 ≤ m → q + m < length l → slice (suc q) (suc (q + m)) l ≡ drop 1 (slice q (q + m) l) ++ (getD l (q + m) 0 ∷ [])
-slice-next q m l h k =
-    let e : q + 1 ≡ suc q = omega arith in
-    ap (drop (suc q)) (take-suc l (q + m) 0 k)
-    ∙ drop-append-le (suc q) (take (q + m) l) (getD l (q + m) 0 ∷ []) (omega (arith, length-take-le (q + m) l (omega arith)))
-    ∙ ap (λ (x : List ℕ). x ++ (getD l (q + m) 0 ∷ [])) (ap (λ (n : ℕ). drop n (take (q + m) l)) (sym e) ∙ sym (drop-drop 1 q (take (q + m) l)))
-
--- and one base back: the base before it comes first, then all but the last of the alternative that stood one base further on
-pub slice-back : (q m : ℕ) (l : List ℕ) → 1 ≤ m → suc (q + m) ≤ length l → slice q (q + m) l ≡ getD l q 0 ∷ slice (suc q) (q + m) l
-slice-back q m l h k = slice-cons q (q + m) l 0 (omega arith) (omega arith)
