@@ -2,13 +2,17 @@
 // what to change.
 mod refusals;
 
+ghost use Rattle.terminal.specs.Page.{Put, column};
+ghost use Rattle.answers.specs.Answers.{className, rangeText, alleleText, answerText, outcomeText};
 use definition::Answered;
 use definition::Class;
 use definition::Outcome;
 pub use refusals::put_advice;
 pub use refusals::put_refusal;
 
-pub fn put_class(page: &mut [u8], used: &mut usize, class: Class) {
+pub fn put_class(page: &mut [u8], used: usize, class: Class) -> usize
+    ensures { λ r. ⌜ Put (now (page .entry)) used (className class) (now (page .exit)) r ⌝ }
+{
     match class {
         Class::Insertion => terminal::put(page, used, b"insertion"),
         Class::Duplication => terminal::put(page, used, b"duplication"),
@@ -20,65 +24,85 @@ pub fn put_class(page: &mut [u8], used: &mut usize, class: Class) {
 }
 
 // A range with both ends in it.
-pub fn put_range(page: &mut [u8], used: &mut usize, start: usize, end: usize) {
-    terminal::put_number(page, used, start);
-    terminal::put_byte(page, used, b',');
-    terminal::put_number(page, used, end);
+pub fn put_range(page: &mut [u8], used: usize, start: usize, end: usize) -> usize
+    ensures { λ r. ⌜ Put (now (page .entry)) used (rangeText start end) (now (page .exit)) r ⌝ }
+{
+    let started = terminal::put_number(page, used, start);
+    let parted = terminal::put_byte(page, started, b',');
+    terminal::put_number(page, parted, end)
 }
 
 // An allele, which is the front of its buffer: a dash where it is empty.
-pub fn put_allele(page: &mut [u8], used: &mut usize, buffer: &[u8], size: usize) {
+pub fn put_allele(page: &mut [u8], used: usize, buffer: &[u8], size: usize) -> usize
+    ensures { λ r. ⌜ Put (now (page .entry)) used (alleleText (now (buffer .entry)) size) (now (page .exit)) r ⌝ }
+{
     if size == 0 {
-        terminal::put_byte(page, used, b'-');
-        return;
+        return terminal::put_byte(page, used, b'-');
     }
-    terminal::put(page, used, terminal::part(buffer, 0, size));
+    terminal::put(page, used, terminal::part(buffer, 0, size))
 }
 
-fn put_class_column(page: &mut [u8], used: &mut usize, width: usize, class: Class) {
-    let from = *used;
-    put_class(page, used, class);
-    terminal::put_spaces(page, used, from, width);
+fn put_class_column(page: &mut [u8], used: usize, width: usize, class: Class) -> usize
+    ensures { λ r. ⌜ Put (now (page .entry)) used (column width (className class)) (now (page .exit)) r ⌝ }
+{
+    let named = put_class(page, used, class);
+    terminal::put_gap(page, named, used, width)
 }
 
-fn put_range_column(page: &mut [u8], used: &mut usize, width: usize, start: usize, end: usize) {
-    let from = *used;
-    put_range(page, used, start, end);
-    terminal::put_spaces(page, used, from, width);
+fn put_range_column(page: &mut [u8], used: usize, width: usize, start: usize, end: usize) -> usize
+    ensures { λ r. ⌜ Put (now (page .entry)) used (column width (rangeText start end)) (now (page .exit)) r ⌝ }
+{
+    let ranged = put_range(page, used, start, end);
+    terminal::put_gap(page, ranged, used, width)
 }
 
-fn put_allele_column(page: &mut [u8], used: &mut usize, width: usize, buffer: &[u8], size: usize) {
-    let from = *used;
-    put_allele(page, used, buffer, size);
-    terminal::put_spaces(page, used, from, width);
+fn put_allele_column(
+    page: &mut [u8],
+    used: usize,
+    width: usize,
+    buffer: &[u8],
+    size: usize,
+) -> usize
+    ensures { λ r. ⌜ Put (now (page .entry)) used (column width (alleleText (now (buffer .entry)) size)) (now (page .exit)) r ⌝ }
+{
+    let spelled = put_allele(page, used, buffer, size);
+    terminal::put_gap(page, spelled, used, width)
 }
 
-// Class, range, both alleles and probes, each but the last filled up to a width.
+// Class, range, both alleles and probes, each but the last in a column.
 fn put_answer(
     page: &mut [u8],
-    used: &mut usize,
+    used: usize,
     width: usize,
     answer: Answered,
     reference: &[u8],
     alternative: &[u8],
-) {
+) -> usize
+    ensures { λ r. ⌜ Put (now (page .entry)) used
+        (answerText width answer (now (reference .entry)) (now (alternative .entry)))
+        (now (page .exit)) r ⌝ }
+{
     let class = answer.class;
-    put_class_column(page, used, width, class);
-    put_range_column(page, used, width, answer.start.0, answer.end.0);
-    put_allele_column(page, used, width, reference, answer.reference_size);
-    put_allele_column(page, used, width, alternative, answer.alternative_size);
-    terminal::put_number(page, used, answer.probes);
+    let named = put_class_column(page, used, width, class);
+    let ranged = put_range_column(page, named, width, answer.start.0, answer.end.0);
+    let before = put_allele_column(page, ranged, width, reference, answer.reference_size);
+    let after = put_allele_column(page, before, width, alternative, answer.alternative_size);
+    terminal::put_number(page, after, answer.probes)
 }
 
 // An outcome on one line.
 pub fn put_outcome(
     page: &mut [u8],
-    used: &mut usize,
+    used: usize,
     width: usize,
     outcome: Outcome,
     reference: &[u8],
     alternative: &[u8],
-) {
+) -> usize
+    ensures { λ r. ⌜ Put (now (page .entry)) used
+        (outcomeText width outcome (now (reference .entry)) (now (alternative .entry)))
+        (now (page .exit)) r ⌝ }
+{
     match outcome {
         Outcome::Answer(answer) => put_answer(page, used, width, answer, reference, alternative),
         Outcome::Refuse(refusal) => put_refusal(page, used, refusal),

@@ -1,7 +1,13 @@
 // The refusals, by 01's numbers and names, each with a sentence that says what to change.
+ghost use Prim.Native.Nat.{_≤_};
+ghost use Rattle.definition.specs.Reply.{refusalNumber};
+ghost use Rattle.terminal.specs.Page.{Put};
+ghost use Rattle.answers.specs.Refusals.{refusalName, refusalText, adviceText};
 use definition::Refusal;
 
-fn put_name(page: &mut [u8], used: &mut usize, refusal: Refusal) {
+fn put_name(page: &mut [u8], used: usize, refusal: Refusal) -> usize
+    ensures { λ r. ⌜ Put (now (page .entry)) used (refusalName refusal) (now (page .exit)) r ⌝ }
+{
     match refusal {
         Refusal::BadCode => terminal::put(page, used, b"BadCode"),
         Refusal::BadWindow => terminal::put(page, used, b"BadWindow"),
@@ -24,15 +30,20 @@ fn put_name(page: &mut [u8], used: &mut usize, refusal: Refusal) {
 }
 
 // The number and the name.
-pub fn put_refusal(page: &mut [u8], used: &mut usize, refusal: Refusal) {
-    terminal::put(page, used, b"refusal ");
-    terminal::put_number(page, used, codes::refusal_number(refusal) as usize);
-    terminal::put_byte(page, used, b' ');
-    put_name(page, used, refusal);
+pub fn put_refusal(page: &mut [u8], used: usize, refusal: Refusal) -> usize
+    ensures { λ r. ⌜ Put (now (page .entry)) used (refusalText refusal) (now (page .exit)) r ⌝ }
+{
+    let titled = terminal::put(page, used, b"refusal ");
+    let numbered = terminal::put_number(page, titled, codes::refusal_number(refusal) as usize);
+    let spaced = terminal::put_byte(page, numbered, b' ');
+    put_name(page, spaced, refusal)
 }
 
 // What to change about the request itself: rows 1 to 9.
-fn put_request_advice(page: &mut [u8], used: &mut usize, refusal: Refusal) {
+fn put_request_advice(page: &mut [u8], used: usize, refusal: Refusal) -> usize
+    requires { ⌜ refusalNumber refusal ≤ 9 ⌝ }
+    ensures { λ r. ⌜ Put (now (page .entry)) used (adviceText refusal) (now (page .exit)) r ⌝ }
+{
     match refusal {
         Refusal::BadCode => terminal::put(page, used, b"Give a listed kind, edit and direction."),
         Refusal::BadWindow => terminal::put(page, used, b"Give a window from 1 to 1024."),
@@ -71,7 +82,9 @@ fn put_request_advice(page: &mut [u8], used: &mut usize, refusal: Refusal) {
 }
 
 // What to change, in a sentence.
-pub fn put_advice(page: &mut [u8], used: &mut usize, refusal: Refusal) {
+pub fn put_advice(page: &mut [u8], used: usize, refusal: Refusal) -> usize
+    ensures { λ r. ⌜ Put (now (page .entry)) used (adviceText refusal) (now (page .exit)) r ⌝ }
+{
     match refusal {
         Refusal::BadTables => terminal::put(
             page,

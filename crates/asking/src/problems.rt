@@ -1,11 +1,41 @@
 // A sentence for each reason why words reach no outcome: it names the argument, and says what to give instead.
+ghost use Rattle.terminal.specs.Page.{Put};
+ghost use Rattle.requests.specs.declared.Fault.the-variants.{UnknownOption, NoValue};
+ghost use Rattle.asking.specs.Problems.{faultText, unreadText, problemText};
 use crate::Problem;
 use crate::targets::Unread;
 use requests::Fault;
 
-// What the value of an option has to be.
-fn put_value_fault(page: &mut [u8], used: &mut usize, fault: Fault) {
+fn put_unknown(page: &mut [u8], used: usize, option: &[u8]) -> usize
+    ensures { λ r. ⌜ Put (now (page .entry)) used (faultText (now (option .entry)) UnknownOption) (now (page .exit)) r ⌝ }
+{
+    let opened = terminal::put(page, used, b"'");
+    let named = terminal::put(page, opened, option);
+    terminal::put(
+        page,
+        named,
+        b"' is no option. Give one that --help lists, each value after its option.",
+    )
+}
+
+fn put_no_value(page: &mut [u8], used: usize, option: &[u8]) -> usize
+    ensures { λ r. ⌜ Put (now (page .entry)) used (faultText (now (option .entry)) NoValue) (now (page .exit)) r ⌝ }
+{
+    let named = terminal::put(page, used, option);
+    terminal::put(
+        page,
+        named,
+        b" has no value. Give one after it; --help shows which.",
+    )
+}
+
+// What is wrong with an option or its value.
+fn put_fault(page: &mut [u8], used: usize, option: &[u8], fault: Fault) -> usize
+    ensures { λ r. ⌜ Put (now (page .entry)) used (faultText (now (option .entry)) fault) (now (page .exit)) r ⌝ }
+{
     match fault {
+        Fault::UnknownOption => put_unknown(page, used, option),
+        Fault::NoValue => put_no_value(page, used, option),
         Fault::BadKind => terminal::put(
             page,
             used,
@@ -31,7 +61,7 @@ fn put_value_fault(page: &mut [u8], used: &mut usize, fault: Fault) {
             used,
             b"--range takes two whole numbers, each at most 2147483647. Give a start, counted from 0, and an end, as in --range 1 2.",
         ),
-        _ => terminal::put(
+        Fault::BadBound => terminal::put(
             page,
             used,
             b"A CDS bound is a whole number, at most 2147483647. Give --cds START END, --cds-start START or --cds-end END.",
@@ -39,30 +69,9 @@ fn put_value_fault(page: &mut [u8], used: &mut usize, fault: Fault) {
     }
 }
 
-fn put_fault(page: &mut [u8], used: &mut usize, option: &[u8], fault: Fault) {
-    match fault {
-        Fault::UnknownOption => {
-            terminal::put(page, used, b"'");
-            terminal::put(page, used, option);
-            terminal::put(
-                page,
-                used,
-                b"' is no option. Give one that --help lists, each value after its option.",
-            );
-        }
-        Fault::NoValue => {
-            terminal::put(page, used, option);
-            terminal::put(
-                page,
-                used,
-                b" has no value. Give one after it; --help shows which.",
-            );
-        }
-        _ => put_value_fault(page, used, fault),
-    }
-}
-
-fn put_unread(page: &mut [u8], used: &mut usize, unread: Unread) {
+fn put_unread(page: &mut [u8], used: usize, unread: Unread) -> usize
+    ensures { λ r. ⌜ Put (now (page .entry)) used (unreadText unread) (now (page .exit)) r ⌝ }
+{
     match unread {
         Unread::Missing => terminal::put(
             page,
@@ -98,7 +107,9 @@ fn put_unread(page: &mut [u8], used: &mut usize, unread: Unread) {
 }
 
 // The sentence for a problem with the words of a text.
-pub fn put_problem(page: &mut [u8], used: &mut usize, text: &[u8], problem: Problem) {
+pub fn put_problem(page: &mut [u8], used: usize, text: &[u8], problem: Problem) -> usize
+    ensures { λ r. ⌜ Put (now (page .entry)) used (problemText (now (text .entry)) problem) (now (page .exit)) r ⌝ }
+{
     match problem {
         Problem::Wrong(fault, at) => put_fault(page, used, terminal::word(text, at), fault),
         Problem::Unread(unread) => put_unread(page, used, unread),

@@ -2,16 +2,27 @@
 // answer that 01 gives it, and what the row shows; an answer that differs is printed beside the expected one.
 mod rows;
 
+ghost use mathlib.Core.Path.{_≡_};
+ghost use Prim.Native.Nat.{_+_, min, max};
+ghost use Rattle.terminal.specs.Page.{Added};
+ghost use Rattle.bench.specs.Runs.{Ran};
 use asking::Reached;
+
+// How many bytes of the page are used, how many rows agree, and how many there are, each count up to 65,536.
+pub struct Run {
+    pub used: usize,
+    pub agreeing: usize,
+    pub all: usize,
+}
 
 // What the words of a row reach, on one line.
 fn put_reached(
     answer: &mut [u8],
-    answer_size: &mut usize,
+    answer_size: usize,
     words: &[u8],
     reference: &mut [u8],
     alternative: &mut [u8],
-) {
+) -> usize {
     match asking::ask(words, reference, alternative) {
         Reached::Outcome(outcome) => answers::put_outcome(
             answer,
@@ -28,20 +39,20 @@ fn put_reached(
 // The same with answer buffers of two sizes, each at most 1,025.
 fn put_reached_in(
     answer: &mut [u8],
-    answer_size: &mut usize,
+    answer_size: usize,
     words: &[u8],
     reference_room: usize,
     alternative_room: usize,
-) {
+) -> usize {
     let mut reference_space = [0u8; 1025];
     let mut alternative_space = [0u8; 1025];
     let reference: &mut [u8] = &mut reference_space;
     let alternative: &mut [u8] = &mut alternative_space;
     if reference.len() < reference_room {
-        return;
+        return answer_size;
     }
     if alternative.len() < alternative_room {
-        return;
+        return answer_size;
     }
     put_reached(
         answer,
@@ -49,17 +60,17 @@ fn put_reached_in(
         words,
         &mut reference[..reference_room],
         &mut alternative[..alternative_room],
-    );
+    )
 }
 
 // The answer to a row's words, which are asked of CAAATGGTACCA where they name no other target.
 fn put_answer(
     answer: &mut [u8],
-    answer_size: &mut usize,
+    answer_size: usize,
     asked: &[u8],
     reference_room: usize,
     alternative_room: usize,
-) {
+) -> usize {
     let mut space = [0u8; 66560];
     let words: &mut [u8] = &mut space;
     let named = lines::expand(b"--target CAAATGGTACCA ", 0, words, 0);
@@ -71,7 +82,7 @@ fn put_answer(
         terminal::part(words, 0, size),
         reference_room,
         alternative_room,
-    );
+    )
 }
 
 // Whether an answer is what a row expects.
@@ -83,97 +94,108 @@ fn agrees(answer: &[u8], expected: &[u8]) -> bool {
 }
 
 // A row as the table has it: what was asked, what is expected, what it shows.
-fn put_row(page: &mut [u8], used: &mut usize, asked: &[u8], expected: &[u8], shows: &[u8]) {
-    terminal::put(page, used, asked);
-    terminal::put(page, used, b"\n    ");
-    terminal::put(page, used, expected);
-    terminal::put(page, used, b"\n    ");
-    terminal::put(page, used, shows);
-    terminal::put_byte(page, used, b'\n');
+fn put_row(page: &mut [u8], used: usize, asked: &[u8], expected: &[u8], shows: &[u8]) -> usize
+    ensures { λ r. ⌜ Added (now (page .entry)) used (now (page .exit)) r ⌝ }
+{
+    let named = terminal::put(page, used, asked);
+    let first = terminal::put(page, named, b"\n    ");
+    let told = terminal::put(page, first, expected);
+    let second = terminal::put(page, told, b"\n    ");
+    let shown = terminal::put(page, second, shows);
+    terminal::put_byte(page, shown, b'\n')
 }
 
-fn put_difference(page: &mut [u8], used: &mut usize, answer: &[u8]) {
-    terminal::put(page, used, b"    DIFFERS: the answer is ");
-    terminal::put(page, used, answer);
-    terminal::put_byte(page, used, b'\n');
+fn put_difference(page: &mut [u8], used: usize, answer: &[u8]) -> usize
+    ensures { λ r. ⌜ Added (now (page .entry)) used (now (page .exit)) r ⌝ }
+{
+    let told = terminal::put(page, used, b"    DIFFERS: the answer is ");
+    let answered = terminal::put(page, told, answer);
+    terminal::put_byte(page, answered, b'\n')
 }
 
-// Runs one row; whether it agrees.
+// A count with one more, up to 65,536.
+fn raised(count: usize) -> usize
+    ensures { λ r. ⌜ r ≡ max count (min (count + 1) 65536) ⌝ }
+{
+    if count < 65536 {
+        return count + 1;
+    }
+    count
+}
+
+// Runs one row.
 fn run_row(
     page: &mut [u8],
-    used: &mut usize,
+    so_far: Run,
     row: &[u8],
     reference_room: usize,
     alternative_room: usize,
-) -> bool {
+) -> Run
+    ensures { λ r. ⌜ Ran (now (page .entry)) «so_far» (now (page .exit)) r ⌝ }
+{
     let second = lines::next_field(row, 0);
     let asked = lines::field(row, 0);
     let expected = lines::field(row, second);
-    put_row(
+    let shown = put_row(
         page,
-        used,
+        so_far.used,
         asked,
         expected,
         lines::field(row, lines::next_field(row, second)),
     );
     let mut space = [0u8; 4096];
     let answer: &mut [u8] = &mut space;
-    let mut size = 0;
-    put_answer(answer, &mut size, asked, reference_room, alternative_room);
+    let size = put_answer(answer, 0, asked, reference_room, alternative_room);
     if agrees(terminal::part(answer, 0, size), expected) {
-        return true;
+        return Run {
+            used: shown,
+            agreeing: raised(so_far.agreeing),
+            all: raised(so_far.all),
+        };
     }
-    put_difference(page, used, terminal::part(answer, 0, size));
-    false
+    Run {
+        used: put_difference(page, shown, terminal::part(answer, 0, size)),
+        agreeing: so_far.agreeing,
+        all: raised(so_far.all),
+    }
 }
 
-fn raise(count: &mut usize) {
-    let n = *count;
-    if n < 65536 {
-        *count = n + 1;
-    }
-}
-
-fn tally(agrees: bool, agreeing: &mut usize, all: &mut usize) {
-    if agrees {
-        raise(agreeing);
-    }
-    raise(all);
-}
-
-// Runs a table's rows with answer buffers of two sizes, and counts those that agree and all.
+// Runs a table's rows with answer buffers of two sizes. What a row's answer is is tested: no contract says what its words reach.
 pub fn run_rows(
     page: &mut [u8],
-    used: &mut usize,
-    agreeing: &mut usize,
-    all: &mut usize,
+    so_far: Run,
     reference_room: usize,
     alternative_room: usize,
     rows: &[u8],
-) {
+) -> Run
+    ensures { λ r. ⌜ Ran (now (page .entry)) «so_far» (now (page .exit)) r ⌝ }
+{
+    let mut run = so_far;
     let mut from = 0;
     while from < rows.len() {
         let end = terminal::find(rows, from, b'\n');
         let row = terminal::part(rows, from, end);
-        tally(
-            run_row(page, used, row, reference_room, alternative_room),
-            agreeing,
-            all,
-        );
+        run = run_row(page, run, row, reference_room, alternative_room);
         from = lines::next_row(rows, from);
     }
+    run
 }
 
+// A page of 524,288 bytes has room for every row, with its answer.
 fn main() {
-    let mut space = [0u8; 4096];
+    let mut space = [0u8; 524288];
     let page: &mut [u8] = &mut space;
-    let mut used = 0;
-    let mut agreeing = 0;
-    let mut all = 0;
-    rows::run(page, &mut used, &mut agreeing, &mut all);
-    terminal::put_number(page, &mut used, agreeing);
-    terminal::put(page, &mut used, b" of ");
-    terminal::put_number(page, &mut used, all);
-    terminal::put(page, &mut used, b" rows agree\n");
-    terminal::flush(page, &mut used);
+    let run = rows::run(
+        page,
+        Run {
+            used: 0,
+            agreeing: 0,
+            all: 0,
+        },
+    );
+    let agreeing = terminal::put_number(page, run.used, run.agreeing);
+    let parted = terminal::put(page, agreeing, b" of ");
+    let counted = terminal::put_number(page, parted, run.all);
+    let used = terminal::put(page, counted, b" rows agree\n");
+    io::write_all(libc::STDOUT_FILENO, terminal::part(page, 0, used));
 }

@@ -1,14 +1,16 @@
 // The rows. A row is a request in the words of the command line, then what is expected of it, then what it shows. An answer is its class, range,
 // reference allele, alternative allele and probes, with - for an empty allele.
+ghost use Rattle.bench.specs.Runs.{Ran};
+use crate::Run;
 use crate::run_rows;
 
 // 01's bench on target CAAATGGTACCA.
-fn bench(page: &mut [u8], used: &mut usize, agreeing: &mut usize, all: &mut usize) {
+fn bench(page: &mut [u8], so_far: Run) -> Run
+    ensures { λ r. ⌜ Ran (now (page .entry)) «so_far» (now (page .exit)) r ⌝ }
+{
     run_rows(
         page,
-        used,
-        agreeing,
-        all,
+        so_far,
         1025,
         1025,
         b"--edit del --range 1 2|deletion 4,4 A - 3|bench: del 1..2 right
@@ -33,16 +35,16 @@ fn bench(page: &mut [u8], used: &mut usize, agreeing: &mut usize, all: &mut usiz
 --kind transcript --exons 0-4,4-12 --edit ins --range 3 5 --alt C|refusal 14 ExonIntronBoundary|bench: ins 3..5 C, exons 0..4, 4..12
 --kind transcript --exons 0-12 --cds-start 4 --edit ins --range 3 5 --alt C|refusal 15 UtrExonBoundary|bench: ins 3..5 C, one exon, CDS start 4
 ",
-    );
+    )
 }
 
 // Both sides of each limit.
-fn limits(page: &mut [u8], used: &mut usize, agreeing: &mut usize, all: &mut usize) {
+fn limits(page: &mut [u8], so_far: Run) -> Run
+    ensures { λ r. ⌜ Ran (now (page .entry)) «so_far» (now (page .exit)) r ⌝ }
+{
     run_rows(
         page,
-        used,
-        agreeing,
-        all,
+        so_far,
         1025,
         1025,
         b"--edit del --range 1 2 --window 1|deletion 4,4 A - 3|limit: the smallest window
@@ -65,16 +67,16 @@ fn limits(page: &mut [u8], used: &mut usize, agreeing: &mut usize, all: &mut usi
 --edit replace --range 4 6 --alt C*1025|refusal 7 TooLong|limit: an alternative above 1,024
 --target AAC --kind transcript --exons 0-3 --edit ins --range 0 2 --alt A*1024 --direction left|replacement 1,1 A A*1025 1|limit: the longest allele of an answer fills its buffer
 ",
-    );
+    )
 }
 
 // A run of 50 equal bases, in windows of 1, 20 and 64.
-fn runs(page: &mut [u8], used: &mut usize, agreeing: &mut usize, all: &mut usize) {
+fn runs(page: &mut [u8], so_far: Run) -> Run
+    ensures { λ r. ⌜ Ran (now (page .entry)) «so_far» (now (page .exit)) r ⌝ }
+{
     run_rows(
         page,
-        used,
-        agreeing,
-        all,
+        so_far,
         1025,
         1025,
         b"--target CA*50G --edit del --range 1 2 --window 1|deletion 51,51 A - 50|limit: a run of 50, window 1; slip: the move ends with the first window
@@ -90,44 +92,44 @@ fn runs(page: &mut [u8], used: &mut usize, agreeing: &mut usize, all: &mut usize
 --target CA*50G --edit ins --range 50 52 --alt A --window 20 --direction left|duplication 2,2 A - 51|limit: an insertion after a run of 50 leftward, window 20
 --target CA*50G --edit ins --range 50 52 --alt A --window 64 --direction left|duplication 2,2 A - 51|limit: an insertion after a run of 50 leftward, window 64
 ",
-    );
+    )
 }
 
 // A reference buffer of 1,024 bytes.
-fn short_reference(page: &mut [u8], used: &mut usize, agreeing: &mut usize, all: &mut usize) {
+fn short_reference(page: &mut [u8], so_far: Run) -> Run
+    ensures { λ r. ⌜ Ran (now (page .entry)) «so_far» (now (page .exit)) r ⌝ }
+{
     run_rows(
         page,
-        used,
-        agreeing,
-        all,
+        so_far,
         1024,
         1025,
         b"--edit del --range 1 2|refusal 9 NoRoom|limit: a reference buffer of 1,024 bytes, however short the allele
 ",
-    );
+    )
 }
 
 // An alternative buffer of 1,024 bytes.
-fn short_alternative(page: &mut [u8], used: &mut usize, agreeing: &mut usize, all: &mut usize) {
+fn short_alternative(page: &mut [u8], so_far: Run) -> Run
+    ensures { λ r. ⌜ Ran (now (page .entry)) «so_far» (now (page .exit)) r ⌝ }
+{
     run_rows(
         page,
-        used,
-        agreeing,
-        all,
+        so_far,
         1025,
         1024,
         b"--edit del --range 1 2|refusal 9 NoRoom|limit: an alternative buffer of 1,024 bytes, however short the allele
 ",
-    );
+    )
 }
 
 // The other rows from 4 to 8, each beside a request that it lets pass.
-fn requests_refused(page: &mut [u8], used: &mut usize, agreeing: &mut usize, all: &mut usize) {
+fn requests_refused(page: &mut [u8], so_far: Run) -> Run
+    ensures { λ r. ⌜ Ran (now (page .entry)) «so_far» (now (page .exit)) r ⌝ }
+{
     run_rows(
         page,
-        used,
-        agreeing,
-        all,
+        so_far,
         1025,
         1025,
         b"--target CAANTGG --edit del --range 1 2|refusal 4 BadBase|row 4: a letter that is no base
@@ -138,16 +140,16 @@ fn requests_refused(page: &mut [u8], used: &mut usize, agreeing: &mut usize, all
 --edit ins --range 3 5 --alt c|refusal 8 BadAllele|row 8: a letter in lower case
 --edit del --range 1 2 --alt N|deletion 4,4 A - 3|row 8: a deletion reads no alternative
 ",
-    );
+    )
 }
 
 // Faults of CDS bounds.
-fn bounds(page: &mut [u8], used: &mut usize, agreeing: &mut usize, all: &mut usize) {
+fn bounds(page: &mut [u8], so_far: Run) -> Run
+    ensures { λ r. ⌜ Ran (now (page .entry)) «so_far» (now (page .exit)) r ⌝ }
+{
     run_rows(
         page,
-        used,
-        agreeing,
-        all,
+        so_far,
         1025,
         1025,
         b"--kind transcript --exons 0-12 --cds-start 2 --edit del --range 3 4 --direction left|deletion 3,3 A - 1|fault: CDS start never cuts the piece on the left
@@ -160,16 +162,16 @@ fn bounds(page: &mut [u8], used: &mut usize, agreeing: &mut usize, all: &mut usi
 --kind transcript --exons 0-12 --cds-end 12 --edit del --range 1 2|deletion 4,4 A - 3|fault: a CDS bound at L refused
 --kind transcript --exons 0-12 --cds-end 13 --edit del --range 1 2|refusal 10 BadTables|fault: a CDS bound past L allowed
 ",
-    );
+    )
 }
 
 // Faults of the two answers between rows 10 and 12.
-fn shortcuts(page: &mut [u8], used: &mut usize, agreeing: &mut usize, all: &mut usize) {
+fn shortcuts(page: &mut [u8], so_far: Run) -> Run
+    ensures { λ r. ⌜ Ran (now (page .entry)) «so_far» (now (page .exit)) r ⌝ }
+{
     run_rows(
         page,
-        used,
-        agreeing,
-        all,
+        so_far,
         1025,
         1025,
         b"--kind transcript --exons 0-4,6-12 --edit replace --range 3 7 --alt ATGG|unchanged 4,7 ATGG ATGG 0|fault: exons looked up before the shortcut
@@ -178,16 +180,16 @@ fn shortcuts(page: &mut [u8], used: &mut usize, agreeing: &mut usize, all: &mut 
 --kind transcript --exons 0-4,6-12 --edit replace --range 5 6 --alt A|replacement 6,6 G A 0|fault: no substitution answer
 --kind transcript --exons 0-4,6-11 --edit replace --range 5 6 --alt A|refusal 10 BadTables|fault: the shortcut taken before row 10
 ",
-    );
+    )
 }
 
 // Faults of exons.
-fn exons(page: &mut [u8], used: &mut usize, agreeing: &mut usize, all: &mut usize) {
+fn exons(page: &mut [u8], so_far: Run) -> Run
+    ensures { λ r. ⌜ Ran (now (page .entry)) «so_far» (now (page .exit)) r ⌝ }
+{
     run_rows(
         page,
-        used,
-        agreeing,
-        all,
+        so_far,
         1025,
         1025,
         b"--kind transcript --exons 0-4,6-12 --edit inv --range 4 5|refusal 12 ExonNotFoundForStart|fault: a one-base inversion between exons taken for a substitution
@@ -208,16 +210,16 @@ fn exons(page: &mut [u8], used: &mut usize, agreeing: &mut usize, all: &mut usiz
 --kind transcript --exons 0-11 --edit del --range 1 2|refusal 10 BadTables|fault: a last end below L allowed
 --kind transcript --exons 0-13 --edit del --range 1 2|refusal 10 BadTables|fault: a last end above L allowed
 ",
-    );
+    )
 }
 
 // Faults of targets that cross boundaries, and of open ones.
-fn crossings(page: &mut [u8], used: &mut usize, agreeing: &mut usize, all: &mut usize) {
+fn crossings(page: &mut [u8], so_far: Run) -> Run
+    ensures { λ r. ⌜ Ran (now (page .entry)) «so_far» (now (page .exit)) r ⌝ }
+{
     run_rows(
         page,
-        used,
-        agreeing,
-        all,
+        so_far,
         1025,
         1025,
         b"--kind crossing --edit ins --range 10 12 --alt AG|replacement 12,12 A AGA 1|fault: crossing without the last-base rule
@@ -227,16 +229,16 @@ fn crossings(page: &mut [u8], used: &mut usize, agreeing: &mut usize, all: &mut 
 --kind open --exons 5-2 --cds 8 4 --edit del --range 1 2|deletion 4,4 A - 3|fault: open that reads the tables
 --kind crossing --edit ins --range 10 12 --alt GG --direction left|refusal 16 VariantSpanOutsideSequenceBounds|fault: 16 on open targets only
 ",
-    );
+    )
 }
 
 // Faults of refusal 16.
-fn spans(page: &mut [u8], used: &mut usize, agreeing: &mut usize, all: &mut usize) {
+fn spans(page: &mut [u8], so_far: Run) -> Run
+    ensures { λ r. ⌜ Ran (now (page .entry)) «so_far» (now (page .exit)) r ⌝ }
+{
     run_rows(
         page,
-        used,
-        agreeing,
-        all,
+        so_far,
         1025,
         1025,
         b"--target CAAA --edit ins --range 2 4 --alt AA --direction left|duplication 2,3 AA - 3|fault: 16 tested before the move
@@ -247,16 +249,16 @@ fn spans(page: &mut [u8], used: &mut usize, agreeing: &mut usize, all: &mut usiz
 --edit dup --range 11 12 --direction left|duplication 12,12 A - 2|fault: 16 given to a duplication, which puts its copy in at gap L
 --edit replace --range 11 12 --alt AC|insertion 12,13 - C 0|fault: 16 rightward
 ",
-    );
+    )
 }
 
 // Faults of trimming, place and class.
-fn places(page: &mut [u8], used: &mut usize, agreeing: &mut usize, all: &mut usize) {
+fn places(page: &mut [u8], so_far: Run) -> Run
+    ensures { λ r. ⌜ Ran (now (page .entry)) «so_far» (now (page .exit)) r ⌝ }
+{
     run_rows(
         page,
-        used,
-        agreeing,
-        all,
+        so_far,
         1025,
         1025,
         b"--edit inv --range 3 8|inversion 5,7 TGG - 0|fault: class 5 lost after trimming
@@ -270,36 +272,44 @@ fn places(page: &mut [u8], used: &mut usize, agreeing: &mut usize, all: &mut usi
 --kind transcript --exons 0-4,4-12 --edit inv --range 5 11 --direction left|unchanged 4,4 - - 1|fault: both alleles empty move past the exon's start
 --kind transcript --exons 0-11,11-12 --edit inv --range 5 11|unchanged 11,11 - - 0|fault: both alleles empty move past the exon's end
 ",
-    );
+    )
 }
 
 // 01's bench and its limits.
-fn document(page: &mut [u8], used: &mut usize, agreeing: &mut usize, all: &mut usize) {
-    bench(page, used, agreeing, all);
-    limits(page, used, agreeing, all);
-    runs(page, used, agreeing, all);
-    short_reference(page, used, agreeing, all);
-    short_alternative(page, used, agreeing, all);
+fn document(page: &mut [u8], so_far: Run) -> Run
+    ensures { λ r. ⌜ Ran (now (page .entry)) «so_far» (now (page .exit)) r ⌝ }
+{
+    let after_bench = bench(page, so_far);
+    let after_limits = limits(page, after_bench);
+    let after_runs = runs(page, after_limits);
+    let after_short_reference = short_reference(page, after_runs);
+    short_alternative(page, after_short_reference)
 }
 
 // Faults of exons and CDS bounds.
-fn faults_of_tables(page: &mut [u8], used: &mut usize, agreeing: &mut usize, all: &mut usize) {
-    bounds(page, used, agreeing, all);
-    shortcuts(page, used, agreeing, all);
-    exons(page, used, agreeing, all);
-    crossings(page, used, agreeing, all);
+fn faults_of_tables(page: &mut [u8], so_far: Run) -> Run
+    ensures { λ r. ⌜ Ran (now (page .entry)) «so_far» (now (page .exit)) r ⌝ }
+{
+    let after_bounds = bounds(page, so_far);
+    let after_shortcuts = shortcuts(page, after_bounds);
+    let after_exons = exons(page, after_shortcuts);
+    crossings(page, after_exons)
 }
 
 // Faults of everything else.
-fn faults_of_changes(page: &mut [u8], used: &mut usize, agreeing: &mut usize, all: &mut usize) {
-    requests_refused(page, used, agreeing, all);
-    spans(page, used, agreeing, all);
-    places(page, used, agreeing, all);
+fn faults_of_changes(page: &mut [u8], so_far: Run) -> Run
+    ensures { λ r. ⌜ Ran (now (page .entry)) «so_far» (now (page .exit)) r ⌝ }
+{
+    let after_requests_refused = requests_refused(page, so_far);
+    let after_spans = spans(page, after_requests_refused);
+    places(page, after_spans)
 }
 
 // Every table.
-pub fn run(page: &mut [u8], used: &mut usize, agreeing: &mut usize, all: &mut usize) {
-    document(page, used, agreeing, all);
-    faults_of_tables(page, used, agreeing, all);
-    faults_of_changes(page, used, agreeing, all);
+pub fn run(page: &mut [u8], so_far: Run) -> Run
+    ensures { λ r. ⌜ Ran (now (page .entry)) «so_far» (now (page .exit)) r ⌝ }
+{
+    let after_document = document(page, so_far);
+    let after_faults_of_tables = faults_of_tables(page, after_document);
+    faults_of_changes(page, after_faults_of_tables)
 }

@@ -45,79 +45,78 @@ fn gather(text: &mut [u8]) -> Gathered {
     Gathered::Words(size)
 }
 
-fn put_class_line(page: &mut [u8], used: &mut usize, answer: Answered) {
+fn put_class_line(page: &mut [u8], used: usize, answer: Answered) -> usize {
     let class = answer.class;
-    terminal::put(page, used, b"class        ");
-    terminal::put_number(page, used, codes::class_number(class) as usize);
-    terminal::put(page, used, b" ");
-    answers::put_class(page, used, class);
-    terminal::put(page, used, b"\nrange        ");
-    answers::put_range(page, used, answer.start.0, answer.end.0);
+    let titled = terminal::put(page, used, b"class        ");
+    let numbered = terminal::put_number(page, titled, codes::class_number(class) as usize);
+    let spaced = terminal::put_byte(page, numbered, b' ');
+    let named = answers::put_class(page, spaced, class);
+    let ended = terminal::put(page, named, b"\nrange        ");
+    answers::put_range(page, ended, answer.start.0, answer.end.0)
 }
 
 // The name of an allele, and the allele.
-fn put_allele_line(page: &mut [u8], used: &mut usize, name: &[u8], buffer: &[u8], size: usize) {
-    terminal::put(page, used, name);
-    answers::put_allele(page, used, buffer, size);
+fn put_allele_line(page: &mut [u8], used: usize, name: &[u8], buffer: &[u8], size: usize) -> usize {
+    let named = terminal::put(page, used, name);
+    answers::put_allele(page, named, buffer, size)
 }
 
 // An answer on five lines.
 fn put_answer(
     page: &mut [u8],
-    used: &mut usize,
+    used: usize,
     answer: Answered,
     reference: &[u8],
     alternative: &[u8],
-) {
-    put_class_line(page, used, answer);
-    put_allele_line(
+) -> usize {
+    let ranged = put_class_line(page, used, answer);
+    let before = put_allele_line(
         page,
-        used,
+        ranged,
         b"\nreference    ",
         reference,
         answer.reference_size,
     );
-    put_allele_line(
+    let after = put_allele_line(
         page,
-        used,
+        before,
         b"\nalternative  ",
         alternative,
         answer.alternative_size,
     );
-    terminal::put(page, used, b"\nprobes       ");
-    terminal::put_number(page, used, answer.probes);
+    let titled = terminal::put(page, after, b"\nprobes       ");
+    terminal::put_number(page, titled, answer.probes)
 }
 
 fn put_outcome(
     page: &mut [u8],
-    used: &mut usize,
+    used: usize,
     outcome: Outcome,
     reference: &[u8],
     alternative: &[u8],
-) {
+) -> usize {
     match outcome {
         Outcome::Answer(answer) => put_answer(page, used, answer, reference, alternative),
         Outcome::Refuse(refusal) => {
-            answers::put_refusal(page, used, refusal);
-            terminal::put(page, used, b": ");
-            answers::put_advice(page, used, refusal);
+            let refused = answers::put_refusal(page, used, refusal);
+            let parted = terminal::put(page, refused, b": ");
+            answers::put_advice(page, parted, refusal)
         }
     }
 }
 
 // What is said where words reach no outcome: the usage where they ask for it.
-fn put_problem(page: &mut [u8], used: &mut usize, text: &[u8], problem: Problem) {
+fn put_problem(page: &mut [u8], used: usize, text: &[u8], problem: Problem) -> usize {
     if let Problem::Wrong(_, at) = problem {
         if check::same(terminal::word(text, at), b"--help") {
-            usage::put_usage(page, used);
-            return;
+            return usage::put_usage(page, used);
         }
     }
-    asking::put_problem(page, used, text, problem);
+    asking::put_problem(page, used, text, problem)
 }
 
 // What the words of a text reach.
-fn put_reached(page: &mut [u8], used: &mut usize, text: &[u8]) {
+fn put_reached(page: &mut [u8], used: usize, text: &[u8]) -> usize {
     let mut reference_space = [0u8; 1025];
     let mut alternative_space = [0u8; 1025];
     let reference: &mut [u8] = &mut reference_space;
@@ -129,28 +128,31 @@ fn put_reached(page: &mut [u8], used: &mut usize, text: &[u8]) {
 }
 
 // What is said to words: the table where there is none.
-fn put_reply(page: &mut [u8], used: &mut usize, text: &[u8]) {
+fn put_reply(page: &mut [u8], text: &[u8]) -> usize {
     if text.len() == 0 {
-        table::put_table(page, used);
-        return;
+        return table::put_table(page, 0);
     }
-    put_reached(page, used, text);
-    terminal::put_byte(page, used, b'\n');
+    let reached = put_reached(page, 0, text);
+    terminal::put_byte(page, reached, b'\n')
 }
 
-fn main() {
-    let mut page_space = [0u8; 4096];
-    let page: &mut [u8] = &mut page_space;
-    let mut used = 0;
-    let mut text_space = [0u8; 262144];
-    let text: &mut [u8] = &mut text_space;
+// What is said to the arguments. A page of 266,240 bytes has room for the longest of them, of fewer than 262,144 bytes, in a sentence.
+fn put_all(page: &mut [u8]) -> usize {
+    let mut space = [0u8; 262144];
+    let text: &mut [u8] = &mut space;
     match gather(text) {
-        Gathered::Words(size) => put_reply(page, &mut used, terminal::part(text, 0, size)),
+        Gathered::Words(size) => put_reply(page, terminal::part(text, 0, size)),
         Gathered::TooLong => terminal::put(
             page,
-            &mut used,
+            0,
             b"The arguments have more than 262144 bytes. Give the target by --file.\n",
         ),
     }
-    terminal::flush(page, &mut used);
+}
+
+fn main() {
+    let mut space = [0u8; 266240];
+    let page: &mut [u8] = &mut space;
+    let used = put_all(page);
+    io::write_all(libc::STDOUT_FILENO, terminal::part(page, 0, used));
 }

@@ -1,4 +1,5 @@
 // The requests of 01's bench on target CAAATGGTACCA, written as arguments, each with its answer in columns.
+ghost use Rattle.terminal.specs.Page.{Added};
 use asking::Reached;
 
 // The columns' widths: that of the arguments, and that of each part of an answer.
@@ -7,7 +8,9 @@ const ASKED: usize = 72;
 const PART: usize = 13;
 
 // What the words of a row reach, in columns.
-fn put_reached(page: &mut [u8], used: &mut usize, words: &[u8]) {
+fn put_reached(page: &mut [u8], used: usize, words: &[u8]) -> usize
+    ensures { λ r. ⌜ Added (now (page .entry)) used (now (page .exit)) r ⌝ }
+{
     let mut reference_space = [0u8; 1025];
     let mut alternative_space = [0u8; 1025];
     let reference: &mut [u8] = &mut reference_space;
@@ -26,55 +29,64 @@ fn put_reached(page: &mut [u8], used: &mut usize, words: &[u8]) {
 }
 
 // The answer to a row, which is the arguments after the target.
-fn put_answer(page: &mut [u8], used: &mut usize, row: &[u8]) {
+fn put_answer(page: &mut [u8], used: usize, row: &[u8]) -> usize
+    ensures { λ r. ⌜ Added (now (page .entry)) used (now (page .exit)) r ⌝ }
+{
     let mut space = [0u8; 256];
     let words: &mut [u8] = &mut space;
     let named = lines::expand(b"--target CAAATGGTACCA ", 0, words, 0);
     let filled = lines::expand(row, 0, words, named);
     let size = lines::push(words, filled, 0);
-    put_reached(page, used, terminal::part(words, 0, size));
+    put_reached(page, used, terminal::part(words, 0, size))
 }
 
-// A row is written by itself, so that its columns are counted from the page's start.
-fn put_row(page: &mut [u8], used: &mut usize, row: &[u8]) {
-    terminal::put(page, used, row);
-    terminal::put_spaces(page, used, 0, ASKED);
-    put_answer(page, used, row);
-    terminal::put_byte(page, used, b'\n');
-    terminal::flush(page, used);
+fn put_row(page: &mut [u8], used: usize, row: &[u8]) -> usize
+    ensures { λ r. ⌜ Added (now (page .entry)) used (now (page .exit)) r ⌝ }
+{
+    let asked = terminal::put(page, used, row);
+    let spaced = terminal::put_gap(page, asked, used, ASKED);
+    let answered = put_answer(page, spaced, row);
+    terminal::put_byte(page, answered, b'\n')
 }
 
-fn put_rows(page: &mut [u8], used: &mut usize, rows: &[u8]) {
+fn put_rows(page: &mut [u8], used: usize, rows: &[u8]) -> usize
+    ensures { λ r. ⌜ Added (now (page .entry)) used (now (page .exit)) r ⌝ }
+{
+    let mut count = used;
     let mut from = 0;
     while from < rows.len() {
         let end = terminal::find(rows, from, b'\n');
-        put_row(page, used, terminal::part(rows, from, end));
+        count = put_row(page, count, terminal::part(rows, from, end));
         from = lines::next_row(rows, from);
     }
+    count
 }
 
-fn put_heading(page: &mut [u8], used: &mut usize) {
-    terminal::put(
+fn put_heading(page: &mut [u8], used: usize) -> usize
+    ensures { λ r. ⌜ Added (now (page .entry)) used (now (page .exit)) r ⌝ }
+{
+    let told = terminal::put(
         page,
         used,
         b"The bench of 01: each row is asked after --target CAAATGGTACCA; --help tells how to ask for a change of your own.\n\n",
     );
-    terminal::flush(page, used);
-    terminal::put(page, used, b"asked");
-    terminal::put_spaces(page, used, 0, ASKED);
+    let asked = terminal::put(page, told, b"asked");
+    let spaced = terminal::put_gap(page, asked, told, ASKED);
     terminal::put(
         page,
-        used,
+        spaced,
         b"class        range        reference    alternative  probes\n",
-    );
-    terminal::flush(page, used);
+    )
 }
 
-pub fn put_table(page: &mut [u8], used: &mut usize) {
-    put_heading(page, used);
+// The table goes behind what the page holds. What its rows say is tested: no contract says what the words of a row reach.
+pub fn put_table(page: &mut [u8], used: usize) -> usize
+    ensures { λ r. ⌜ Added (now (page .entry)) used (now (page .exit)) r ⌝ }
+{
+    let headed = put_heading(page, used);
     put_rows(
         page,
-        used,
+        headed,
         b"--edit del --range 1 2
 --edit del --range 3 4 --direction left
 --kind transcript --exons 0-4,4-12 --edit del --range 1 2
@@ -97,5 +109,5 @@ pub fn put_table(page: &mut [u8], used: &mut usize) {
 --kind transcript --exons 0-4,4-12 --edit ins --range 3 5 --alt C
 --kind transcript --exons 0-12 --cds-start 4 --edit ins --range 3 5 --alt C
 ",
-    );
+    )
 }

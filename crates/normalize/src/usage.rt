@@ -1,5 +1,10 @@
 // What --help prints.
-pub fn put_usage(page: &mut [u8], used: &mut usize) {
+ghost use Rattle.terminal.specs.Page.{Put};
+ghost use Rattle.normalize.specs.Usage.{usageText};
+
+pub fn put_usage(page: &mut [u8], used: usize) -> usize
+    ensures { λ r. ⌜ Put (now (page .entry)) used usageText (now (page .exit)) r ⌝ }
+{
     terminal::put(
         page,
         used,
@@ -35,5 +40,5 @@ range        4,4
 reference    A
 alternative  -
 probes       3",
-    );
+    )
 }

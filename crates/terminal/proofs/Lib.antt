@@ -1,3 +1,6 @@
 -- What the proofs share. Assumes nothing.
 pub mod Tests
 pub mod Digits
+pub mod Pages
+pub mod Shown
+pub mod Unique

@@ -1,3 +1,4 @@
 -- What the contracts of `src/` cite. Assumes nothing.
 pub mod Decimal
+pub mod Page
 pub mod Text

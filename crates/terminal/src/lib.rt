@@ -1,11 +1,12 @@
-// What a program that a person runs needs below its requests: parts and words of a text, numbers read and written as decimals, and a page in
-// which output is gathered, so that many small pieces of text are one write.
+// What a program that a person runs needs below its requests: parts and words of a text, numbers read and written as decimals, and a page on
+// which output is gathered, so that many small pieces of text are one write. A page is a lent buffer of which so many bytes are used.
 ghost use mathlib.Core.Path.{_≡_};
-ghost use Prim.Native.Nat.{_+_, _≤_, min};
+ghost use mathlib.Core.List.{[], _∷_};
+ghost use Prim.Native.Nat.{_+_, _-_, _≤_, min};
 ghost use lib.ListN.{length};
 ghost use Rattle.terminal.specs.Decimal.{appendedTo, decimalOf};
+ghost use Rattle.terminal.specs.Page.{Put, decimalText, spaces, gap};
 ghost use Rattle.terminal.specs.Text.{partOf, foundAt, wordAt};
-use libc::STDOUT_FILENO;
 
 // A number as a word gives it.
 pub enum Number {
@@ -91,54 +92,67 @@ pub fn decimal(word: &[u8]) -> Number
     Number::Is(value)
 }
 
-// Writes what the page holds, and empties it.
-pub fn flush(page: &[u8], used: &mut usize) {
-    io::write_all(STDOUT_FILENO, part(page, 0, *used));
-    *used = 0;
+// A byte goes on the page behind those that are used, unless it is full. Each function that puts a text gives back how many are used then.
+pub fn put_byte(page: &mut [u8], used: usize, byte: u8) -> usize
+    ensures { λ r. ⌜ Put (now (page .entry)) used (byte ∷ []) (now (page .exit)) r ⌝ }
+{
+    if page.len() <= used {
+        return used;
+    }
+    page[used] = byte;
+    used + 1
 }
 
-// A byte on the page, which is written first where it is full.
-pub fn put_byte(page: &mut [u8], used: &mut usize, byte: u8) {
-    if page.len() <= *used {
-        flush(page, used);
-    }
-    let at = *used;
-    if at < page.len() {
-        page[at] = byte;
-        *used = at + 1;
-    }
-}
-
-pub fn put(page: &mut [u8], used: &mut usize, text: &[u8]) {
+pub fn put(page: &mut [u8], used: usize, text: &[u8]) -> usize
+    ensures { λ r. ⌜ Put (now (page .entry)) used (now (text .entry)) (now (page .exit)) r ⌝ }
+{
+    let mut count = used;
     let mut i = 0;
     while i < text.len() {
-        put_byte(page, used, text[i]);
+        count = put_byte(page, count, text[i]);
         i += 1;
     }
+    count
 }
 
-pub fn put_number(page: &mut [u8], used: &mut usize, number: usize) {
+// A number as a decimal.
+pub fn put_number(page: &mut [u8], used: usize, number: usize) -> usize
+    ensures { λ r. ⌜ Put (now (page .entry)) used (decimalText number) (now (page .exit)) r ⌝ }
+{
     let mut digits = [0u8; 20];
     let size = io::decimal(number as u64, &mut digits);
-    put(page, used, &digits[..size]);
+    put(page, used, &digits[..size])
 }
 
-// A space, where fewer bytes than a column stand on the page since an index.
-fn put_space(page: &mut [u8], used: &mut usize, from: usize, column: usize) {
-    let at = *used;
-    if from <= at {
-        if at - from < column {
-            put_byte(page, used, b' ');
-        }
-    }
-}
-
-// Spaces up to a column that is counted from an index of the page, and at least one.
-pub fn put_spaces(page: &mut [u8], used: &mut usize, from: usize, column: usize) {
-    put_byte(page, used, b' ');
+fn put_spaces(page: &mut [u8], used: usize, size: usize) -> usize
+    ensures { λ r. ⌜ Put (now (page .entry)) used (spaces size) (now (page .exit)) r ⌝ }
+{
+    let mut count = used;
     let mut i = 0;
-    while i < column {
-        put_space(page, used, from, column);
+    while i < size {
+        count = put_byte(page, count, b' ');
         i += 1;
     }
+    count
+}
+
+// A difference: 0 where the second number is larger.
+fn less(a: usize, b: usize) -> usize
+    ensures { λ r. ⌜ r ≡ a - b ⌝ }
+{
+    if a < b {
+        return 0;
+    }
+    a - b
+}
+
+// Spaces up to a width that is counted from an index of the page, and at least one.
+pub fn put_gap(page: &mut [u8], used: usize, from: usize, width: usize) -> usize
+    ensures { λ r. ⌜ Put (now (page .entry)) used (gap width (used - from)) (now (page .exit)) r ⌝ }
+{
+    let size = less(width, less(used, from));
+    if size == 0 {
+        return put_byte(page, used, b' ');
+    }
+    put_spaces(page, used, size)
 }

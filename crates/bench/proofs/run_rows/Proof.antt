@@ -1,21 +1,23 @@
--- `bench::run_rows` is safe and ends: each row begins after the one before it. The measure is the bytes left. Assumes nothing.
+-- `bench::run_rows` meets its contract: each row is run on what the rows before it left, and begins after them. The measure is the bytes left.
+-- Assumes nothing.
 use mathlib.Core.Path.{_≡_}
 use Prim.Native.Nat.{_≤_, _-_}
-use borrow.Author.Needs.{needs}
 use lib.ListN.{length}
+use borrow.Author.Needs.{needs}
+use Rattle.bench.specs.Runs.{Ran}
+use Rattle.bench.proofs.Runs.{no-row, more-rows}
 use Rattle.bench.proofs.run_rows.Statement.{statement}
 use Rattle.bench.proofs.run_rows.Tie as tie
 
 abbrev Inv-loop : tie.InvT-loop
-Inv-loop page₀ used₀ agreeing₀ all₀ reference-room alternative-room rows from₀ page used agreeing all from =
-    (from ≤ length rows) × (length page ≡ length page₀)
+Inv-loop page₀ reference-room alternative-room rows run₀ from₀ page run from =
+    (from ≤ length rows) × (length page ≡ length page₀) × Ran page₀ run₀ page run
 
 abbrev μ-loop : tie.MeasureT-loop
-μ-loop page₀ used₀ agreeing₀ all₀ reference-room alternative-room rows from₀ page used agreeing all from =
-    length rows - from
+μ-loop page₀ reference-room alternative-room rows run₀ from₀ page run from = length rows - from
 
 loop-holds : tie.Need-loop-holds Inv-loop μ-loop
-loop-holds c = search needs
+loop-holds c = (search needs, search needs, no-row)
 
 find-requires : tie.Need-find-requires Inv-loop μ-loop
 find-requires c κs = search needs
@@ -26,9 +28,6 @@ part-requires c κs = search needs
 run-row-requires : tie.Need-run-row-requires Inv-loop μ-loop
 run-row-requires c κs = search needs
 
-tally-requires : tie.Need-tally-requires Inv-loop μ-loop
-tally-requires c κs = search needs
-
 next-row-requires : tie.Need-next-row-requires Inv-loop μ-loop
 next-row-requires c κs = search needs
 
@@ -36,7 +35,7 @@ loop-less : tie.Need-loop-less Inv-loop μ-loop
 loop-less c = search needs
 
 loop-again : tie.Need-loop-again Inv-loop μ-loop
-loop-again c = search needs
+loop-again c = (search needs, search needs, more-rows (c .before .before .before .before .before .before .before .before .loop .inv .2) (c .before .before .before .run-row .ensures))
 
 same-length : tie.Need-same-length Inv-loop μ-loop
 same-length c = search needs
@@ -54,7 +53,6 @@ run-rows-spec =
     find-requires
     part-requires
     run-row-requires
-    tally-requires
     next-row-requires
     loop-less
     loop-again

@@ -1,25 +1,26 @@
--- `terminal::put_spaces` is safe and ends. The measure is the turns left. Assumes nothing.
+-- `terminal::put_spaces` meets its contract. The invariant: as many spaces as there were turns are on the page. The measure is the turns left.
+-- Assumes nothing.
 use mathlib.Core.Path.{_≡_}
 use Prim.Native.Nat.{_≤_, _-_}
+use native.Mathlib.Omega.{arith}
 use borrow.Author.Needs.{needs}
 use lib.ListN.{length}
+use Rattle.terminal.specs.Page.{Put, spaces}
+use Rattle.terminal.proofs.Pages.{none, space-more}
 use Rattle.terminal.proofs.put_spaces.Statement.{statement}
 use Rattle.terminal.proofs.put_spaces.Tie as tie
 
 abbrev Inv-loop : tie.InvT-loop
-Inv-loop page₀ used₀ from column i₀ page used i = (i ≤ column) × (length page ≡ length page₀)
+Inv-loop page₀ used size count₀ i₀ page count i = (i ≤ size) × (length page ≡ length page₀) × Put page₀ used (spaces i) page count
 
 abbrev μ-loop : tie.MeasureT-loop
-μ-loop page₀ used₀ from column i₀ page used i = column - i
+μ-loop page₀ used size count₀ i₀ page count i = size - i
+
+loop-holds : tie.Need-loop-holds Inv-loop μ-loop
+loop-holds c = (search needs, search needs, none)
 
 put-byte-requires : tie.Need-put-byte-requires Inv-loop μ-loop
 put-byte-requires c κs = search needs
-
-loop-holds : tie.Need-loop-holds Inv-loop μ-loop
-loop-holds c = search needs
-
-put-space-requires : tie.Need-put-space-requires Inv-loop μ-loop
-put-space-requires c κs = search needs
 
 add-i : tie.Need-add-i Inv-loop μ-loop
 add-i c = search needs
@@ -28,13 +29,17 @@ loop-less : tie.Need-loop-less Inv-loop μ-loop
 loop-less c = search needs
 
 loop-again : tie.Need-loop-again Inv-loop μ-loop
-loop-again c = search needs
+loop-again c =
+    let at = c .before .before .before .before .before .loop in
+    (search needs, search needs, space-more (at .i) (at .inv .2) (c .before .before .put-byte .ensures))
 
 same-length : tie.Need-same-length Inv-loop μ-loop
 same-length c = search needs
 
 returns : tie.Need-returns Inv-loop μ-loop
-returns c = search needs
+returns c =
+    let all : c .before .loop .i ≡ c .before .before .before .args .size = omega arith in
+    rw all at (c .before .loop .inv .2)
 
 pub put-spaces-spec : {M : Type 1} → statement M
 put-spaces-spec =
@@ -42,9 +47,8 @@ put-spaces-spec =
     (tie.spec
     Inv-loop
     μ-loop
-    put-byte-requires
     loop-holds
-    put-space-requires
+    put-byte-requires
     add-i
     loop-less
     loop-again

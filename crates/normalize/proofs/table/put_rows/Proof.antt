@@ -1,19 +1,23 @@
--- `normalize::table::put_rows` is safe and ends: each row begins after the one before it. The measure is the bytes left. Assumes nothing.
+-- `normalize::table::put_rows` meets its contract: each row adds to the page, and begins after the one before it. The measure is the bytes left.
+-- Assumes nothing.
 use mathlib.Core.Path.{_≡_}
 use Prim.Native.Nat.{_≤_, _-_}
-use borrow.Author.Needs.{needs}
 use lib.ListN.{length}
+use borrow.Author.Needs.{needs}
+use Rattle.terminal.specs.Page.{Added}
+use Rattle.terminal.proofs.Pages.{none, adds, adds-more}
 use Rattle.normalize.proofs.table.put_rows.Statement.{statement}
 use Rattle.normalize.proofs.table.put_rows.Tie as tie
 
 abbrev Inv-loop : tie.InvT-loop
-Inv-loop page₀ used₀ rows from₀ page used from = (from ≤ length rows) × (length page ≡ length page₀)
+Inv-loop page₀ used rows count₀ from₀ page count from =
+    (from ≤ length rows) × (length page ≡ length page₀) × Added page₀ used page count
 
 abbrev μ-loop : tie.MeasureT-loop
-μ-loop page₀ used₀ rows from₀ page used from = length rows - from
+μ-loop page₀ used rows count₀ from₀ page count from = length rows - from
 
 loop-holds : tie.Need-loop-holds Inv-loop μ-loop
-loop-holds c = search needs
+loop-holds c = (search needs, search needs, adds none)
 
 find-requires : tie.Need-find-requires Inv-loop μ-loop
 find-requires c κs = search needs
@@ -31,7 +35,7 @@ loop-less : tie.Need-loop-less Inv-loop μ-loop
 loop-less c = search needs
 
 loop-again : tie.Need-loop-again Inv-loop μ-loop
-loop-again c = search needs
+loop-again c = (search needs, search needs, adds-more (c .before .before .before .before .before .before .before .before .loop .inv .2) (c .before .before .before .put-row .ensures))
 
 same-length : tie.Need-same-length Inv-loop μ-loop
 same-length c = search needs

@@ -1,0 +1,26 @@
+-- `terminal::put_byte` meets its contract: its test is the definition's. Assumes nothing.
+use Rattle.terminal.specs.Page.{withText}
+use Rattle.terminal.proofs.Tests.{tests}
+use borrow.Author.Needs.{needs}
+use Rattle.terminal.proofs.put_byte.Statement.{statement}
+use Rattle.terminal.proofs.put_byte.Tie as tie
+
+returns : tie.Need-returns
+unfolding withText
+returns c = search tests
+
+slice-write-page : tie.Need-slice-write-page
+slice-write-page c = search needs
+
+add-result : tie.Need-add-result
+add-result c = search needs
+
+same-length : tie.Need-same-length
+same-length c = search needs
+
+returns-2 : tie.Need-returns-2
+unfolding withText
+returns-2 c = search tests
+
+pub put-byte-spec : {M : Type 1} → statement M
+put-byte-spec = tie.close (tie.spec returns slice-write-page add-result same-length returns-2)
