@@ -1,3 +1,2 @@
 -- What the proofs share. Assumes nothing.
-pub mod Rows
 pub mod Unique

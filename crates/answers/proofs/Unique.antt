@@ -8,8 +8,6 @@ use Rattle.answers.proofs.put_class.Reads as put-class
 use Rattle.answers.proofs.put_range.Reads as put-range
 use Rattle.answers.proofs.put_allele.Reads as put-allele
 use Rattle.answers.proofs.put_outcome.Reads as put-outcome
-use Rattle.answers.proofs.refusals.put_refusal.Reads as put-refusal
-use Rattle.answers.proofs.refusals.put_advice.Reads as put-advice
 
 pub put-class-one-page : Fixes (λ κs x at. page (now (at .0)) x) put-class.Post
 put-class-one-page κs a x y atX atY p q = one-page p q
@@ -22,9 +20,3 @@ put-allele-one-page κs a x y atX atY p q = one-page p q
 
 pub put-outcome-one-page : Fixes (λ κs x at. page (now (at .0)) x) put-outcome.Post
 put-outcome-one-page κs a x y atX atY p q = one-page p q
-
-pub put-refusal-one-page : Fixes (λ κs x at. page (now (at .0)) x) put-refusal.Post
-put-refusal-one-page κs a x y atX atY p q = one-page p q
-
-pub put-advice-one-page : Fixes (λ κs x at. page (now (at .0)) x) put-advice.Post
-put-advice-one-page κs a x y atX atY p q = one-page p q

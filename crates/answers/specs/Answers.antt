@@ -10,7 +10,7 @@ use Rattle.definition.specs.declared.Outcome.{Outcome}
 use Rattle.definition.specs.declared.Outcome.the-variants.{Answer, Refuse}
 use Rattle.terminal.specs.Page.{ascii, decimalText, column}
 use Rattle.terminal.specs.Text.{partOf}
-use Rattle.answers.specs.Refusals.{refusalText}
+use Rattle.refusals.specs.Refusals.{refusalText}
 
 unfoldable pub className : Class → List ℕ
 className Insertion = ascii "insertion"

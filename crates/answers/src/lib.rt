@@ -1,14 +1,9 @@
-// What came back of a request, in words: an answer or a refusal on one line, in columns or with single spaces; and for each refusal 01's name and
-// what to change.
-mod refusals;
-
+// What came back of a request, in words: an answer or a refusal on one line, in columns or with single spaces.
 ghost use Rattle.terminal.specs.Page.{Put, column};
 ghost use Rattle.answers.specs.Answers.{className, rangeText, alleleText, answerText, outcomeText};
 use definition::Answered;
 use definition::Class;
 use definition::Outcome;
-pub use refusals::put_advice;
-pub use refusals::put_refusal;
 
 pub fn put_class(page: &mut [u8], used: usize, class: Class) -> usize
     ensures { λ r. ⌜ Put (now (page .entry)) used (className class) (now (page .exit)) r ⌝ }
@@ -105,6 +100,6 @@ pub fn put_outcome(
 {
     match outcome {
         Outcome::Answer(answer) => put_answer(page, used, width, answer, reference, alternative),
-        Outcome::Refuse(refusal) => put_refusal(page, used, refusal),
+        Outcome::Refuse(refusal) => refusals::put_refusal(page, used, refusal),
     }
 }

@@ -1,35 +1,39 @@
 // Tables that are written as text: a line is a row, bars stand between its fields, and A*50 is a run of fifty As.
+ghost use mathlib.Core.Path.{_≡_};
+ghost use mathlib.Core.List.{[], _∷_};
 ghost use Prim.Native.Nat.{_+_, _<_, _≤_, min};
-ghost use lib.ListN.{length};
+ghost use lib.ListN.{length, drop, replicate};
+ghost use Rattle.lines.specs.Fields.{fieldAt, nextFieldAt, nextRowAt, Put};
+ghost use Rattle.lines.specs.Runs.{orOnce, digitsIn, timesIn, markSize, separatedBy, expanded};
+ghost use Rattle.terminal.specs.Decimal.{decimalOf};
 use terminal::Number;
 
 // The bytes of a line from an index up to the next bar.
-pub fn field(line: &[u8], from: usize) -> &[u8] {
+pub fn field(line: &[u8], from: usize) -> &[u8]
+    ensures { λ r. ⌜ now r ≡ fieldAt (now (line .entry)) from ⌝ }
+{
     terminal::part(line, from, terminal::find(line, from, b'|'))
 }
 
 // Where the field after it begins: the line's end where there is none.
-pub fn next_field(line: &[u8], from: usize) -> usize {
-    let bar = terminal::find(line, from, b'|');
-    if bar < line.len() {
-        return bar + 1;
-    }
-    line.len()
+pub fn next_field(line: &[u8], from: usize) -> usize
+    ensures { λ r. ⌜ r ≡ nextFieldAt (now (line .entry)) from ⌝ }
+{
+    terminal::after(line, from, b'|')
 }
 
 // Where the row after it begins: the table's end where there is none.
 pub fn next_row(rows: &[u8], from: usize) -> usize
+    ensures { λ r. ⌜ r ≡ nextRowAt (now (rows .entry)) from ⌝ }
     ensures { λ r. ⌜ (r ≤ length (now (rows .entry))) × (min (from + 1) (length (now (rows .entry))) ≤ r) ⌝ }
 {
-    let end = terminal::find(rows, from, b'\n');
-    if end < rows.len() {
-        return end + 1;
-    }
-    rows.len()
+    terminal::after(rows, from, b'\n')
 }
 
 // A byte put at the end of a text of this size, if there is room; the size then.
-pub fn push(text: &mut [u8], size: usize, byte: u8) -> usize {
+pub fn push(text: &mut [u8], size: usize, byte: u8) -> usize
+    ensures { λ r. ⌜ Put (now (text .entry)) size (byte ∷ []) (now (text .exit)) r ⌝ }
+{
     if size < text.len() {
         text[size] = byte;
         return size + 1;
@@ -37,7 +41,9 @@ pub fn push(text: &mut [u8], size: usize, byte: u8) -> usize {
     size
 }
 
-fn push_run(text: &mut [u8], size: usize, byte: u8, count: u32) -> usize {
+fn push_run(text: &mut [u8], size: usize, byte: u8, count: u32) -> usize
+    ensures { λ r. ⌜ Put (now (text .entry)) size (replicate count byte) (now (text .exit)) r ⌝ }
+{
     let mut end = size;
     let mut i: u32 = 0;
     while i < count {
@@ -50,7 +56,8 @@ fn push_run(text: &mut [u8], size: usize, byte: u8, count: u32) -> usize {
 // Where the digits that begin at an index end.
 fn digits_end(field: &[u8], from: usize) -> usize
     requires { ⌜ from ≤ length (now field) ⌝ }
-    ensures { λ r. ⌜ (from ≤ r) × (r ≤ length (now (field .entry))) ⌝ }
+    ensures { λ r. ⌜ r ≡ from + length (digitsIn (drop from (now (field .entry)))) ⌝ }
+    ensures { λ r. ⌜ r ≤ length (now (field .entry)) ⌝ }
 {
     let mut end = from;
     while end < field.len() {
@@ -68,7 +75,8 @@ fn digits_end(field: &[u8], from: usize) -> usize
 // Where the run that begins at an index ends: after its count, if a star follows the byte.
 fn run_end(field: &[u8], from: usize) -> usize
     requires { ⌜ from < length (now field) ⌝ }
-    ensures { λ r. ⌜ (from < r) × (r ≤ length (now (field .entry))) ⌝ }
+    ensures { λ r. ⌜ r ≡ from + 1 + markSize (drop (from + 1) (now (field .entry))) ⌝ }
+    ensures { λ r. ⌜ r ≤ length (now (field .entry)) ⌝ }
 {
     let star = from + 1;
     if star < field.len() {
@@ -79,34 +87,48 @@ fn run_end(field: &[u8], from: usize) -> usize
     star
 }
 
-// How often the byte at an index stands in the run that ends at another.
-fn run_count(field: &[u8], from: usize, end: usize) -> u32
-    requires { ⌜ from < length (now field) ⌝ }
+// The number that the digits from an index on are; 1 where they are none.
+fn count_at(field: &[u8], from: usize) -> u32
+    requires { ⌜ from ≤ length (now field) ⌝ }
+    ensures { λ r. ⌜ r ≡ orOnce (decimalOf (digitsIn (drop from (now (field .entry))))) ⌝ }
 {
-    let next = from + 1;
-    if end <= next {
-        return 1;
-    }
-    match terminal::decimal(terminal::part(field, next + 1, end)) {
+    match terminal::decimal(terminal::part(field, from, digits_end(field, from))) {
         Number::Is(count) => count,
         Number::Bad => 1,
     }
 }
 
+// How often the byte at an index stands in its run.
+fn run_count(field: &[u8], from: usize) -> u32
+    requires { ⌜ from < length (now field) ⌝ }
+    ensures { λ r. ⌜ r ≡ timesIn (drop (from + 1) (now (field .entry))) ⌝ }
+{
+    let star = from + 1;
+    if star < field.len() {
+        if field[star] == b'*' {
+            return count_at(field, star + 1);
+        }
+    }
+    1
+}
+
 // A space as the byte that separates words.
-fn separated(byte: u8, separator: u8) -> u8 {
+fn separated(byte: u8, separator: u8) -> u8
+    ensures { λ r. ⌜ r ≡ separatedBy separator byte ⌝ }
+{
     if byte == b' ' { separator } else { byte }
 }
 
 // Puts a field with its runs written out at the end of a text of this size; the size then.
-pub fn expand(field: &[u8], separator: u8, text: &mut [u8], size: usize) -> usize {
+pub fn expand(field: &[u8], separator: u8, text: &mut [u8], size: usize) -> usize
+    ensures { λ r. ⌜ Put (now (text .entry)) size (expanded separator (now (field .entry))) (now (text .exit)) r ⌝ }
+{
     let mut filled = size;
     let mut i = 0;
     while i < field.len() {
-        let end = run_end(field, i);
-        let count = run_count(field, i, end);
-        filled = push_run(text, filled, separated(field[i], separator), count);
-        i = end;
+        let byte = separated(field[i], separator);
+        filled = push_run(text, filled, byte, run_count(field, i));
+        i = run_end(field, i);
     }
     filled
 }

@@ -1,4 +1,7 @@
 // The words of the command line: names of options, and the codes of kinds, edits and directions by their words.
+ghost use mathlib.Core.Path.{_≡_};
+ghost use Rattle.definition.specs.Bases.{sameBases};
+ghost use Rattle.names.specs.Words.{targetOptions, meaning, nameOf, kindCode, editCode, directionCode};
 use terminal::Number;
 
 // The options, by name.
@@ -18,89 +21,106 @@ pub enum Name {
     Unknown,
 }
 
+// Whether a word is this one.
+fn is(word: &[u8], this: &[u8]) -> bool
+    ensures { λ r. ⌜ r ≡ sameBases (now (word .entry)) (now (this .entry)) ⌝ }
+{
+    check::same(word, this)
+}
+
 // The options that say what the target is.
-fn target_name(word: &[u8]) -> Name {
-    if check::same(word, b"--target") {
+fn target_name(word: &[u8]) -> Name
+    ensures { λ r. ⌜ r ≡ meaning targetOptions Name.Unknown (now (word .entry)) ⌝ }
+{
+    if is(word, b"--target") {
         return Name::Target;
     }
-    if check::same(word, b"--file") {
+    if is(word, b"--file") {
         return Name::File;
     }
-    if check::same(word, b"--kind") {
+    if is(word, b"--kind") {
         return Name::Kind;
     }
-    if check::same(word, b"--exons") {
+    if is(word, b"--exons") {
         return Name::Exons;
     }
-    if check::same(word, b"--cds") {
+    if is(word, b"--cds") {
         return Name::Cds;
     }
-    if check::same(word, b"--cds-start") {
+    if is(word, b"--cds-start") {
         return Name::CdsStart;
     }
-    if check::same(word, b"--cds-end") {
+    if is(word, b"--cds-end") {
         return Name::CdsEnd;
     }
     Name::Unknown
 }
 
 // Every option.
-pub fn name_of(word: &[u8]) -> Name {
-    if check::same(word, b"--edit") {
+pub fn name_of(word: &[u8]) -> Name
+    ensures { λ r. ⌜ r ≡ nameOf (now (word .entry)) ⌝ }
+{
+    if is(word, b"--edit") {
         return Name::Edit;
     }
-    if check::same(word, b"--range") {
+    if is(word, b"--range") {
         return Name::Range;
     }
-    if check::same(word, b"--alt") {
+    if is(word, b"--alt") {
         return Name::Alternative;
     }
-    if check::same(word, b"--direction") {
+    if is(word, b"--direction") {
         return Name::Direction;
     }
-    if check::same(word, b"--window") {
+    if is(word, b"--window") {
         return Name::Window;
     }
     target_name(word)
 }
 
-pub fn kind_code(word: &[u8]) -> Number {
-    if check::same(word, b"open") {
+pub fn kind_code(word: &[u8]) -> Number
+    ensures { λ r. ⌜ r ≡ kindCode (now (word .entry)) ⌝ }
+{
+    if is(word, b"open") {
         return Number::Is(0);
     }
-    if check::same(word, b"transcript") {
+    if is(word, b"transcript") {
         return Number::Is(1);
     }
-    if check::same(word, b"crossing") {
+    if is(word, b"crossing") {
         return Number::Is(2);
     }
     Number::Bad
 }
 
-pub fn edit_code(word: &[u8]) -> Number {
-    if check::same(word, b"ins") {
+pub fn edit_code(word: &[u8]) -> Number
+    ensures { λ r. ⌜ r ≡ editCode (now (word .entry)) ⌝ }
+{
+    if is(word, b"ins") {
         return Number::Is(0);
     }
-    if check::same(word, b"dup") {
+    if is(word, b"dup") {
         return Number::Is(1);
     }
-    if check::same(word, b"del") {
+    if is(word, b"del") {
         return Number::Is(2);
     }
-    if check::same(word, b"replace") {
+    if is(word, b"replace") {
         return Number::Is(3);
     }
-    if check::same(word, b"inv") {
+    if is(word, b"inv") {
         return Number::Is(4);
     }
     Number::Bad
 }
 
-pub fn direction_code(word: &[u8]) -> Number {
-    if check::same(word, b"right") {
+pub fn direction_code(word: &[u8]) -> Number
+    ensures { λ r. ⌜ r ≡ directionCode (now (word .entry)) ⌝ }
+{
+    if is(word, b"right") {
         return Number::Is(0);
     }
-    if check::same(word, b"left") {
+    if is(word, b"left") {
         return Number::Is(1);
     }
     Number::Bad

@@ -98,9 +98,9 @@ fn put_outcome(
     match outcome {
         Outcome::Answer(answer) => put_answer(page, used, answer, reference, alternative),
         Outcome::Refuse(refusal) => {
-            let refused = answers::put_refusal(page, used, refusal);
+            let refused = refusals::put_refusal(page, used, refusal);
             let parted = terminal::put(page, refused, b": ");
-            answers::put_advice(page, parted, refusal)
+            refusals::put_advice(page, parted, refusal)
         }
     }
 }

@@ -1,7 +1,10 @@
 // The records of stored answers: where each part of a record lies among the file's bytes, what `normalize` answers to its request, and where
 // that differs from what is stored. Every length that the file gives is tested before it ends a part.
+ghost use mathlib.Core.Path.{_≡_};
 ghost use Prim.Native.Nat.{_≤_};
 ghost use lib.ListN.{length};
+ghost use Rattle.terminal.specs.Text.{partOf};
+ghost use Rattle.records.specs.Format.{numberAt, signedOf, signedLongOf, partAt, numbersAt, requestAt, storedAt};
 use definition::Outcome;
 
 // The most bytes that a file may have.
@@ -77,13 +80,15 @@ pub struct Compared {
 }
 
 fn wide(byte: u8) -> u32
-    ensures { λ r. ⌜ r ≤ 255 ⌝ }
+    ensures { λ r. ⌜ (r ≡ byte) × (r ≤ 255) ⌝ }
 {
     byte as u32
 }
 
 // The number that four bytes spell, lowest first; 0 where the file ends before them.
-pub fn number(file: &[u8], at: usize) -> u32 {
+pub fn number(file: &[u8], at: usize) -> u32
+    ensures { λ r. ⌜ r ≡ numberAt (now (file .entry)) at ⌝ }
+{
     if file.len() < 4 {
         return 0;
     }
@@ -96,7 +101,9 @@ pub fn number(file: &[u8], at: usize) -> u32 {
 }
 
 // Four bytes as a number with a sign.
-fn signed(bits: u32) -> i32 {
+fn signed(bits: u32) -> i32
+    ensures { λ r. ⌜ r ≡ signedOf bits ⌝ }
+{
     if bits < 2147483648 {
         return bits as i32;
     }
@@ -104,7 +111,9 @@ fn signed(bits: u32) -> i32 {
 }
 
 // Eight bytes as a number with a sign, from their halves.
-fn signed_long(low: u32, high: u32) -> i64 {
+fn signed_long(low: u32, high: u32) -> i64
+    ensures { λ r. ⌜ r ≡ signedLongOf low high ⌝ }
+{
     let bits = low as u64 + high as u64 * 4294967296;
     if bits < 9223372036854775808 {
         return bits as i64;
@@ -113,8 +122,9 @@ fn signed_long(low: u32, high: u32) -> i64 {
 }
 
 // The part whose length stands at a place.
-pub fn part_at(file: &[u8], at: usize) -> Part
-    ensures { λ r. ⌜ (r .from ≤ r .to) × (r .to ≤ length (now (file .entry))) ⌝ }
+fn part_at(file: &[u8], at: usize) -> Part
+    ensures { λ r. ⌜ r ≡ partAt (now (file .entry)) at ⌝ }
+    ensures { λ r. ⌜ r .to ≤ length (now (file .entry)) ⌝ }
 {
     let cut = Part {
         whole: false,
@@ -142,6 +152,7 @@ pub fn part_at(file: &[u8], at: usize) -> Part
 // The numbers of a request, which stand behind its target, its exon table and its alternative.
 fn numbers_at(file: &[u8], target_to: usize, exons_to: usize, alternative_to: usize) -> Numbers
     requires { ⌜ («exons_to» ≤ 524288) × («alternative_to» ≤ 524288) ⌝ }
+    ensures { λ r. ⌜ r ≡ numbersAt (now (file .entry)) «target_to» «exons_to» «alternative_to» ⌝ }
 {
     let at = exons_to;
     Numbers {
@@ -159,13 +170,14 @@ fn numbers_at(file: &[u8], target_to: usize, exons_to: usize, alternative_to: us
 // The request at a place of a file.
 pub fn request_at(file: &[u8], at: usize) -> Request
     requires { ⌜ length (now file) ≤ 524288 ⌝ }
+    ensures { λ r. ⌜ r ≡ requestAt (now (file .entry)) at ⌝ }
     ensures { λ r. ⌜ r .to ≤ 524296 ⌝ }
 {
     let target = part_at(file, at);
     let exons = part_at(file, target.to + 4);
     let alternative = part_at(file, exons.to + 28);
     Request {
-        whole: target.whole && exons.whole && alternative.whole,
+        whole: target.whole & exons.whole & alternative.whole,
         target: target,
         exons: exons,
         alternative: alternative,
@@ -177,12 +189,13 @@ pub fn request_at(file: &[u8], at: usize) -> Request
 // The stored answer at a place of a file. It is whole only where its last part is.
 pub fn stored_at(file: &[u8], at: usize) -> Stored
     requires { ⌜ (length (now file) ≤ 524288) × (at ≤ 524296) ⌝ }
+    ensures { λ r. ⌜ r ≡ storedAt (now (file .entry)) at ⌝ }
     ensures { λ r. ⌜ r .to ≤ 524288 ⌝ }
 {
     let reference = part_at(file, at + 20);
     let alternative = part_at(file, reference.to);
     Stored {
-        whole: reference.whole && alternative.whole,
+        whole: reference.whole & alternative.whole,
         refusal: number(file, at),
         class: number(file, at + 4),
         start: number(file, at + 8),
@@ -195,16 +208,12 @@ pub fn stored_at(file: &[u8], at: usize) -> Stored
 }
 
 // The bytes of a part: none where it does not lie in the file.
-pub fn bytes_of<'a>(file: &'a [u8], part: Part) -> &'a [u8] {
+fn bytes_of<'a>(file: &'a [u8], part: Part) -> &'a [u8]
+    ensures { λ r. ⌜ now r ≡ partOf (now (file .entry)) (part .from) (part .to) ⌝ }
+{
     let from = part.from;
     let to = part.to;
-    if to < from {
-        return &file[..0];
-    }
-    if file.len() < to {
-        return &file[..0];
-    }
-    &file[from..to]
+    terminal::part(file, from, to)
 }
 
 // What comes back of a request, in numbers.
@@ -235,7 +244,7 @@ fn in_numbers(outcome: Outcome) -> Reply {
 }
 
 // Whether a buffer holds an allele of so many bases, and behind it what filled the buffer.
-pub fn holds_allele(buffer: &[u8; 1025], size: usize, allele: &[u8]) -> bool {
+fn holds_allele(buffer: &[u8; 1025], size: usize, allele: &[u8]) -> bool {
     if allele.len() != size {
         return false;
     }

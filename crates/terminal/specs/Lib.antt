@@ -2,3 +2,4 @@
 pub mod Decimal
 pub mod Page
 pub mod Text
+pub mod Laid

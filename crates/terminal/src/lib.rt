@@ -6,7 +6,7 @@ ghost use Prim.Native.Nat.{_+_, _-_, _≤_, min};
 ghost use lib.ListN.{length};
 ghost use Rattle.terminal.specs.Decimal.{appendedTo, decimalOf};
 ghost use Rattle.terminal.specs.Page.{Put, decimalText, spaces, gap};
-ghost use Rattle.terminal.specs.Text.{partOf, foundAt, wordAt};
+ghost use Rattle.terminal.specs.Text.{partOf, foundAt, afterFound, wordAt, nextWordAt};
 
 // A number as a word gives it.
 pub enum Number {
@@ -45,15 +45,24 @@ pub fn word(text: &[u8], from: usize) -> &[u8]
     part(text, from, find(text, from, 0))
 }
 
-// Where the word after it begins: the text's end where there is none.
-pub fn next_word(text: &[u8], from: usize) -> usize
+// The index behind the first of a byte at or after an index: the text's end where there is none.
+pub fn after(text: &[u8], from: usize, byte: u8) -> usize
+    ensures { λ r. ⌜ r ≡ afterFound (now (text .entry)) from byte ⌝ }
     ensures { λ r. ⌜ (r ≤ length (now (text .entry))) × (min (from + 1) (length (now (text .entry))) ≤ r) ⌝ }
 {
-    let end = find(text, from, 0);
-    if end < text.len() {
-        return end + 1;
+    let at = find(text, from, byte);
+    if at < text.len() {
+        return at + 1;
     }
     text.len()
+}
+
+// Where the word after it begins: the text's end where there is none.
+pub fn next_word(text: &[u8], from: usize) -> usize
+    ensures { λ r. ⌜ r ≡ nextWordAt (now (text .entry)) from ⌝ }
+    ensures { λ r. ⌜ (r ≤ length (now (text .entry))) × (min (from + 1) (length (now (text .entry))) ≤ r) ⌝ }
+{
+    after(text, from, 0)
 }
 
 // A number with one digit more, up to 2,147,483,647.

@@ -1,72 +1,51 @@
--- `inputs::read_letters` is safe and ends: no letter is kept past the target's end. The measure is the bytes left. Assumes nothing.
-use mathlib.Core.Path.{_≡_}
-use Prim.Native.Nat.{_≤_, _-_}
+-- `inputs::read_letters` meets its contract: what is kept of the part that is the file's record. Assumes nothing.
+use mathlib.Core.Path.{ap, _∙_}
+use mathlib.Core.List.{List}
+use Prim.Native.Nat.{ℕ}
 use borrow.Author.Needs.{needs}
-use lib.ListN.{length}
+use Rattle.inputs.specs.Letters.{lettersLaid}
+use Rattle.inputs.proofs.Header.{read-record, read-letters}
 use Rattle.inputs.proofs.read_letters.Statement.{statement}
 use Rattle.inputs.proofs.read_letters.Tie as tie
 
-abbrev Inv-loop : tie.InvT-loop
-Inv-loop text target₀ size₀ i₀ target size i = (size ≤ length target) × (length target ≡ length target₀)
-
-abbrev μ-loop : tie.MeasureT-loop
-μ-loop text target₀ size₀ i₀ target size i = length text - i
-
-letters-start-requires : tie.Need-letters-start-requires Inv-loop μ-loop
+letters-start-requires : tie.Need-letters-start-requires
 letters-start-requires c κs = search needs
 
-loop-holds : tie.Need-loop-holds Inv-loop μ-loop
-loop-holds c = search needs
+find-requires : tie.Need-find-requires
+find-requires c κs = search needs
 
-shared-slice-read-byte : tie.Need-shared-slice-read-byte Inv-loop μ-loop
-shared-slice-read-byte c = search needs
+part-requires : tie.Need-part-requires
+part-requires c κs = search needs
 
-same-length : tie.Need-same-length Inv-loop μ-loop
+keep-letters-requires : tie.Need-keep-letters-requires
+keep-letters-requires c κs = search needs
+
+behind-record-requires : tie.Need-behind-record-requires
+behind-record-requires c κs = search needs
+
+same-length : tie.Need-same-length
 same-length c = search needs
 
-returns : tie.Need-returns Inv-loop μ-loop
-returns c = search needs
-
-same-length-2 : tie.Need-same-length-2 Inv-loop μ-loop
-same-length-2 c = search needs
-
-returns-2 : tie.Need-returns-2 Inv-loop μ-loop
-returns-2 c = search needs
-
-keep-requires : tie.Need-keep-requires Inv-loop μ-loop
-keep-requires c κs = search needs
-
-add-i : tie.Need-add-i Inv-loop μ-loop
-add-i c = search needs
-
-loop-less : tie.Need-loop-less Inv-loop μ-loop
-loop-less c = search needs
-
-loop-again : tie.Need-loop-again Inv-loop μ-loop
-loop-again c = search needs
-
-same-length-3 : tie.Need-same-length-3 Inv-loop μ-loop
-same-length-3 c = search needs
-
-returns-3 : tie.Need-returns-3 Inv-loop μ-loop
-returns-3 c = search needs
+returns : tie.Need-returns
+returns c =
+    let kept = c .before .before .before in
+    let part = kept .before .before in
+    let found = part .before .find .ensures .0 in
+    let start = part .before .before .letters-start .ensures in
+    let args = part .before .before .before .before .before .args in
+    let target = args .target .now in (
+      read-letters (args .text .now) target start found (part .part .ensures) (kept .keep-letters .ensures .0) (c .behind-record .ensures),
+      kept .keep-letters .ensures .1 ∙ ap (λ (bytes : List ℕ). lettersLaid bytes target) (read-record (args .text .now) target start found (part .part .ensures)),
+    )
 
 pub read-letters-spec : {M : Type 1} → statement M
 read-letters-spec =
     tie.close
     (tie.spec
-    Inv-loop
-    μ-loop
     letters-start-requires
-    loop-holds
-    shared-slice-read-byte
+    find-requires
+    part-requires
+    keep-letters-requires
+    behind-record-requires
     same-length
-    returns
-    same-length-2
-    returns-2
-    keep-requires
-    add-i
-    loop-less
-    loop-again
-    same-length-3
-    returns-3)
+    returns)

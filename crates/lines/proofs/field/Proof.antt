@@ -1,0 +1,19 @@
+-- `lines::field` meets its contract: what `part` gives up to where `find` stops. Assumes nothing.
+use mathlib.Core.Path.{_∙_, ap}
+use denote.Ref.{now}
+use Rattle.terminal.specs.Text.{partOf}
+use borrow.Author.Needs.{needs}
+use Rattle.lines.proofs.field.Statement.{statement}
+use Rattle.lines.proofs.field.Tie as tie
+
+find-requires : tie.Need-find-requires
+find-requires c κs = search needs
+
+part-requires : tie.Need-part-requires
+part-requires c κs = search needs
+
+returns : tie.Need-returns
+returns c = c .part .ensures ∙ ap (partOf (now (c .before .before .before .args .line)) (c .before .before .before .args .from)) (c .before .find .ensures .0)
+
+pub field-spec : {M : Type 1} → statement M
+field-spec = tie.close (tie.spec find-requires part-requires returns)

@@ -1,0 +1,59 @@
+-- The words of the command line and what each means: a table for each kind of word. Assumes nothing.
+use Prim.Native.Nat.{ℕ}
+use Prim.Native.String.{String}
+use mathlib.Core.Bool.{cond}
+use mathlib.Core.List.{List, [], _∷_}
+use Rattle.definition.specs.Bases.{sameBases}
+use Rattle.names.specs.declared.Name.{Name}
+use Rattle.names.specs.declared.Name.the-variants.{Target, File, Exons, Alternative, Kind, Edit, Direction, Window, CdsStart, CdsEnd, Cds, Range, Unknown}
+use Rattle.terminal.specs.Page.{ascii}
+use Rattle.terminal.specs.declared.Number.{Number}
+use Rattle.terminal.specs.declared.Number.the-variants.{Is, Bad}
+
+-- what a word means: what the first row says that has it, and something else where none has
+unfoldable pub meaning : {A : Type 0} → List (String × A) → A → List ℕ → A
+meaning [] other word = other
+meaning (row ∷ rows) other word = cond (sameBases word (ascii (row .0))) (row .1) (meaning rows other word)
+
+-- the options that say what the target is
+abbrev pub targetOptions : List (String × Name)
+targetOptions =
+    ("--target", Target)
+    ∷ ("--file", File)
+    ∷ ("--kind", Kind)
+    ∷ ("--exons", Exons)
+    ∷ ("--cds", Cds)
+    ∷ ("--cds-start", CdsStart)
+    ∷ ("--cds-end", CdsEnd)
+    ∷ []
+
+-- every option
+abbrev pub options : List (String × Name)
+options =
+    ("--edit", Edit)
+    ∷ ("--range", Range)
+    ∷ ("--alt", Alternative)
+    ∷ ("--direction", Direction)
+    ∷ ("--window", Window)
+    ∷ targetOptions
+
+abbrev pub kinds : List (String × Number)
+kinds = ("open", Is 0) ∷ ("transcript", Is 1) ∷ ("crossing", Is 2) ∷ []
+
+abbrev pub edits : List (String × Number)
+edits = ("ins", Is 0) ∷ ("dup", Is 1) ∷ ("del", Is 2) ∷ ("replace", Is 3) ∷ ("inv", Is 4) ∷ []
+
+abbrev pub directions : List (String × Number)
+directions = ("right", Is 0) ∷ ("left", Is 1) ∷ []
+
+abbrev pub nameOf : List ℕ → Name
+nameOf = meaning options Unknown
+
+abbrev pub kindCode : List ℕ → Number
+kindCode = meaning kinds Bad
+
+abbrev pub editCode : List ℕ → Number
+editCode = meaning edits Bad
+
+abbrev pub directionCode : List ℕ → Number
+directionCode = meaning directions Bad

@@ -1,0 +1,50 @@
+-- `refusals::put_refusal` meets its contract: the four puts are one. Assumes nothing.
+use mathlib.Core.Path.{ap}
+use Rattle.terminal.specs.Page.{decimalText}
+use Rattle.terminal.proofs.Pages.{then, same-text}
+use borrow.Author.Needs.{needs}
+use Rattle.refusals.proofs.put_refusal.Statement.{statement}
+use Rattle.refusals.proofs.put_refusal.Tie as tie
+
+slice-aggregate-put : tie.Need-slice-aggregate-put
+slice-aggregate-put c = search needs
+
+put-requires : tie.Need-put-requires
+put-requires c κs = search needs
+
+refusal-number-requires : tie.Need-refusal-number-requires
+refusal-number-requires c κs = search needs
+
+cast-put-number : tie.Need-cast-put-number
+cast-put-number c = search needs
+
+put-number-requires : tie.Need-put-number-requires
+put-number-requires c κs = search needs
+
+put-byte-requires : tie.Need-put-byte-requires
+put-byte-requires c κs = search needs
+
+put-name-requires : tie.Need-put-name-requires
+put-name-requires c κs = search needs
+
+same-length : tie.Need-same-length
+same-length c = search needs
+
+returns : tie.Need-returns
+returns c =
+    let numbered = same-text (ap decimalText (c .before .before .before .before .before .before .before .before .before .before .before .refusal-number .ensures)) (c .before .before .before .before .before .before .before .before .before .before .put-number .ensures) in
+    then (then (then (c .before .before .before .before .before .before .before .before .before .before .before .before .before .before .before .put .ensures) numbered) (c .before .before .before .before .before .before .put-byte .ensures)) (c .before .before .put-name .ensures)
+
+pub put-refusal-spec : {M : Type 1} → statement M
+put-refusal-spec =
+    tie.close
+    (tie.spec
+    slice-aggregate-put
+    put-requires
+    refusal-number-requires
+    cast-put-number
+    put-number-requires
+    put-byte-requires
+    put-name-requires
+    same-length
+    returns)
