@@ -6,7 +6,7 @@ ghost use Rattle.definition.specs.declared.Edit.the-variants.{Invert};
 ghost use Rattle.definition.specs.Change.{spelled};
 ghost use Rattle.definition.specs.Verdict.{movedIn};
 ghost use Rattle.definition.specs.Reply.{Met};
-ghost use Rattle.shuffle.specs.Shuffle.{Asked};
+ghost use Rattle.shuffle.specs.Shuffle.{Asked, Settled};
 ghost use Rattle.results.specs.Asked.{Room};
 ghost use Rattle.spelling.specs.Asked.{Ranged, Read};
 use definition::Direction;
@@ -15,6 +15,30 @@ use definition::Kind;
 use definition::Outcome;
 use definition::Piece;
 use definition::Zero;
+use shuffle::Shuffled;
+
+// The shuffle of a direction.
+fn normalize_alleles(
+    target: &[u8],
+    direction: Direction,
+    piece: Piece,
+    from: Zero,
+    to: Zero,
+    inserted: &[u8],
+    window: usize,
+) -> Shuffled
+    requires { ⌜ Asked piece (now target) (record { from = from .0; to = to .0; inserted = now inserted }) window ⌝ }
+    ensures { λ s. ⌜ Settled direction piece (now (target .entry)) (record { from = from .0; to = to .0; inserted = now (inserted .entry) }) s ⌝ }
+{
+    match direction {
+        Direction::Rightward => {
+            shuffle::normalize_alleles_5_to_3(target, piece, from, to, inserted, window)
+        }
+        Direction::Leftward => {
+            shuffle::normalize_alleles_3_to_5(target, piece, from, to, inserted, window)
+        }
+    }
+}
 
 // The change that a request spells, moved in its piece and named there.
 fn moved(
@@ -36,50 +60,25 @@ fn moved(
         (movedIn direction kind piece (now (target .entry)) (record { from = from .0; to = to .0; inserted = now (inserted .entry) }))
         r (now («reference_out» .entry)) (now («reference_out» .exit)) (now («alternative_out» .entry)) (now («alternative_out» .exit)) ⌝ }
 {
-    match direction {
-        Direction::Rightward => {
-            let s = shuffle::normalize_alleles_5_to_3(target, piece, from, to, inserted, window);
-            let size = s.reference.count;
-            let alternative = s.alternative;
-            let head = alternative.head;
-            let count = alternative.count;
-            results::build_result(
-                target,
-                kind,
-                direction,
-                piece,
-                s.place,
-                s.probes,
-                size,
-                &alternative.bytes,
-                head,
-                count,
-                reference_out,
-                alternative_out,
-            )
-        }
-        Direction::Leftward => {
-            let s = shuffle::normalize_alleles_3_to_5(target, piece, from, to, inserted, window);
-            let size = s.reference.count;
-            let alternative = s.alternative;
-            let head = alternative.head;
-            let count = alternative.count;
-            results::build_result(
-                target,
-                kind,
-                direction,
-                piece,
-                s.place,
-                s.probes,
-                size,
-                &alternative.bytes,
-                head,
-                count,
-                reference_out,
-                alternative_out,
-            )
-        }
-    }
+    let s = normalize_alleles(target, direction, piece, from, to, inserted, window);
+    let size = s.reference.count;
+    let alternative = s.alternative;
+    let head = alternative.head;
+    let count = alternative.count;
+    results::build_result(
+        target,
+        kind,
+        direction,
+        piece,
+        s.place,
+        s.probes,
+        size,
+        &alternative.bytes,
+        head,
+        count,
+        reference_out,
+        alternative_out,
+    )
 }
 
 // An inversion: the reverse complement of the range takes its place.
