@@ -8,6 +8,7 @@ ghost use Rattle.boundary.specs.InOrder.{InOrder, ReadInOrder};
 use definition::Bound;
 use definition::ExonFound;
 use definition::Kind;
+use definition::OPEN_END;
 use definition::Piece;
 use definition::PieceFound;
 use definition::Refusal;
@@ -129,7 +130,7 @@ fn whole_piece() -> Piece
 {
     Piece {
         left: Zero(0),
-        right: Zero(2147483647),
+        right: Zero(OPEN_END),
     }
 }
 

@@ -12,6 +12,7 @@ use Rattle.definition.specs.declared.Direction.{Direction}
 use Rattle.definition.specs.declared.Class.{Class}
 use Rattle.definition.specs.declared.Class.the-variants.{Insertion, Duplication, Deletion, Replacement, Inversion, Unchanged}
 use Rattle.definition.specs.declared.Piece.{Piece}
+use Rattle.definition.specs.Limits.{longestAllele}
 use Rattle.definition.specs.Answer.{Named, copyBeside, copyStart, namedInsertion, isInversion, namedReplacement, named}
 use Rattle.definition.proofs.Tests.{and-true}
 use Rattle.definition.proofs.Meaning.{copy-fits}
@@ -50,7 +51,7 @@ module _ (direction : Direction) (piece : Piece) (target : List ℕ) (q : ℕ) w
 
 -- numbers that no end rule has been applied to say their class, their range, and the parts that they hold
 calls : (target bases : List ℕ) (class : Class) (start end from size kept : ℕ) (what : Named)
-    → from + size ≤ length target → size ≤ 1024 → kept ≤ length bases
+    → from + size ≤ length target → size ≤ longestAllele → kept ≤ length bases
     → what ≡ written class start end (slice from (from + size) target) (take kept bases) → Calls target bases (unanchored class start end from size kept) what
 unfolding calledIn
 calls target bases class start end from size kept what fits short within e =
@@ -67,7 +68,7 @@ inversion-long ref alt t =
     (eqb-true (length ref) (length alt) (h .0), ltb-true 1 (length ref) (h .1))
 
 module _ (direction : Direction) (piece : Piece) (target bases : List ℕ) (q k m : ℕ)
-    (fits : q + k ≤ length target) (short : k ≤ 1024) (many : length bases ≡ m) where
+    (fits : q + k ≤ length target) (short : k ≤ longestAllele) (many : length bases ≡ m) where
   size : length (slice q (q + k) target) ≡ k
   size = slice-size q k target fits
 
@@ -95,7 +96,7 @@ module _ (direction : Direction) (piece : Piece) (target bases : List ℕ) (q k 
       calls target bases Insertion q (q + 1) q 0 m _ (omega arith) (omega arith) (omega arith)
       (named-inserted direction piece target q (slice q (q + k) target) bases (omega (arith, size)) (omega arith) ∙ rw (t, none, whole))
 
-  pub calls-duplication : k ≡ 0 → 1 ≤ m → m ≤ 1024 → copyBeside direction piece target q bases ≡ true
+  pub calls-duplication : k ≡ 0 → 1 ≤ m → m ≤ longestAllele → copyBeside direction piece target q bases ≡ true
       → CallsAt direction piece target q k bases
       (unanchored Duplication (copyStart direction q m + 1) (copyStart direction q m + m) (copyStart direction q m) m 0)
   unfolding namedInsertion

@@ -9,6 +9,7 @@ use lib.Seq.{slice}
 use Rattle.definition.specs.declared.Class.{Class}
 use Rattle.definition.specs.declared.Direction.{Direction}
 use Rattle.definition.specs.declared.Piece.{Piece}
+use Rattle.definition.specs.Limits.{longestAllele}
 use Rattle.definition.specs.Answer.{Named, named}
 use Rattle.classes.specs.declared.Anchor.{Anchor}
 use Rattle.classes.specs.declared.Anchor.the-variants.{Alone, First, Last}
@@ -36,7 +37,7 @@ calledIn target bases n = record {
 pub record Calls (target bases : List ℕ) (n : Called) (what : Named) : Type 0 where
   pub says : calledIn target bases n ≡ what
   pub reference : n .«reference_start» .0 + n .«reference_size» ≤ length target
-  pub short : n .«reference_size» ≤ 1024
+  pub short : n .«reference_size» ≤ longestAllele
   pub alternative : n .«alternative_size» ≤ length bases
   pub alone : (n .start .0 ≡ 0) ⊎ (n .end .0 ≡ length target + 1) → n .anchor ≡ Alone
 

@@ -7,6 +7,7 @@ ghost use lib.Dec.{eqb};
 ghost use lib.ListN.{length};
 ghost use lib.Seq.{slice};
 ghost use Rattle.definition.specs.Bases.{reverseComplement, sameBases};
+ghost use Rattle.definition.specs.Limits.{longestTarget, longestAllele};
 ghost use Rattle.definition.specs.Answer.{copyBeside, copyStart, isInversion};
 ghost use Rattle.definition.specs.declared.Direction.the-variants.{Rightward, Leftward};
 ghost use Rattle.definition.specs.declared.Class.the-variants.{Deletion, Replacement};
@@ -117,7 +118,7 @@ fn copy_after(
     head: usize,
     count: usize,
 ) -> Beside
-    requires { ⌜ Placed head count × (place .0 ≤ length (now target)) × (length (now target) ≤ 65535) ⌝ }
+    requires { ⌜ Placed head count × (place .0 ≤ length (now target)) × (length (now target) ≤ longestTarget) ⌝ }
     ensures { λ r. ⌜ r ≡ found
         (copyBeside Leftward piece (now (target .entry)) (place .0) (window (now (alternative .entry)) head count))
         (copyStart Leftward (place .0) count) ⌝ }
@@ -147,7 +148,7 @@ fn copy_beside(
     head: usize,
     count: usize,
 ) -> Beside
-    requires { ⌜ Placed head count × (place .0 ≤ length (now target)) × (length (now target) ≤ 65535) ⌝ }
+    requires { ⌜ Placed head count × (place .0 ≤ length (now target)) × (length (now target) ≤ longestTarget) ⌝ }
     ensures { λ r. ⌜ r ≡ found
         (copyBeside direction piece (now (target .entry)) (place .0) (window (now (alternative .entry)) head count))
         (copyStart direction (place .0) count) ⌝ }
@@ -165,7 +166,7 @@ fn over_reference(
     reference_size: usize,
     alternative_size: usize,
 ) -> Called
-    requires { ⌜ place .0 + «reference_size» ≤ 65535 ⌝ }
+    requires { ⌜ place .0 + «reference_size» ≤ longestTarget ⌝ }
     ensures { λ r. ⌜ r ≡ unanchored class (place .0 + 1) (place .0 + «reference_size») (place .0) «reference_size» «alternative_size» ⌝ }
 {
     Called {
@@ -181,7 +182,7 @@ fn over_reference(
 
 // The reference goes and the alternative stands in its place: a deletion where there is no alternative, else a replacement.
 fn deleted_or_replaced(place: Zero, reference_size: usize, count: usize) -> Called
-    requires { ⌜ place .0 + «reference_size» ≤ 65535 ⌝ }
+    requires { ⌜ place .0 + «reference_size» ≤ longestTarget ⌝ }
     ensures { λ r. ⌜ r ≡ unanchored (cond (eqb count 0) Deletion Replacement)
         (place .0 + 1) (place .0 + «reference_size») (place .0) «reference_size» count ⌝ }
 {
@@ -244,7 +245,7 @@ fn build_result_len_gt(
 
 // The reference is longer: a deletion or a replacement.
 fn build_result_len_less(place: Zero, reference_size: usize, count: usize) -> Called
-    requires { ⌜ (place .0 + «reference_size» ≤ 65535) × («reference_size» ≤ 1024) × (count < «reference_size») ⌝ }
+    requires { ⌜ (place .0 + «reference_size» ≤ longestTarget) × («reference_size» ≤ longestAllele) × (count < «reference_size») ⌝ }
     ensures { λ r. ⌜ CallsAny (place .0) «reference_size» count r ⌝ }
 {
     deleted_or_replaced(place, reference_size, count)

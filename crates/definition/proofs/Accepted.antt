@@ -20,7 +20,8 @@ use Rattle.definition.specs.declared.PieceFound.the-variants.{InPiece, N
 use Rattle.definition.specs.declared.Piece.{Piece}
 use Rattle.definition.specs.Change.{Change, spelled, trimmed}
 use Rattle.definition.specs.Request.{Request, alteredBy, boundOf, kindOf, editOf, directionOf, startOf, endOf, changeOf}
-use Rattle.definition.specs.Verdict.{Answer, Verdict, refused, answered, verdict, Row, firstGiven, targetRows, changeRows, requestRows, rows, badTarget, outOfBounds, badInsertion, tooLong, readAlternative, longestTarget, longestAllele, answeredAtOnce, pieceOf, normal, answerAtOnce, answerMoved, answeredOr16, movedIn, afterPiece, afterShortcuts, answerIn, refusedOr}
+use Rattle.definition.specs.Limits.{longestTarget, longestAllele}
+use Rattle.definition.specs.Verdict.{Answer, Verdict, refused, answered, verdict, Row, firstGiven, targetRows, changeRows, requestRows, rows, badTarget, outOfBounds, badInsertion, tooLong, readAlternative, answeredAtOnce, pieceOf, normal, answerAtOnce, answerMoved, answeredOr16, movedIn, afterPiece, afterShortcuts, answerIn, refusedOr}
 use Rattle.definition.specs.Answer.{Named}
 use Rattle.definition.proofs.Tests.{or-false}
 use Rattle.definition.proofs.Pieces.{Holds, piece-for-holds}
@@ -111,7 +112,7 @@ lies r s = spelled-lies (editOf (r .editCode)) r (s .ordered) (s .flanks)
 
 -- the piece that is found for a request holds its range
 pub piece-holds : (r : Request) → Sound r → Holds (startOf r) (endOf r) (pieceOf r)
-unfolding pieceOf longestTarget
+unfolding pieceOf
 piece-holds r s =
     piece-for-holds (kindOf (r .kindCode)) (r .exonBytes) (boundOf (r .cdsStart)) (boundOf (r .cdsEnd)) (startOf r) (endOf r) (s .ordered)
     (omega (arith, s .inTarget, s .short))

@@ -30,7 +30,8 @@ use Rattle.definition.specs.Change.{Trimmed, trimmed, trimmedBy, Change,
 use Rattle.definition.specs.Request.{Request, startOf, editOf, endOf, directionOf, changeOf, alteredBy, kindOf}
 use Rattle.definition.specs.Place.{stoppedByBase, isPure, probesOf}
 use Rattle.definition.specs.Answer.{Named, copyBeside, copyStart, namedInsertion, isInversion, namedReplacement, named, firstBaseRule, hasLastBaseRule, lastBaseRule, classNumber}
-use Rattle.definition.specs.Verdict.{refused, answered, Answer, answered, verdict, replacedAtOnce, answeredAtOnce, longestTarget, answerRoom, Verdict}
+use Rattle.definition.specs.Limits.{longestTarget, answerRoom}
+use Rattle.definition.specs.Verdict.{refused, answered, Answer, answered, verdict, replacedAtOnce, answeredAtOnce, Verdict}
 use Rattle.definition.specs.Reply.{Reply, reply, refusalNumber}
 use Rattle.definition.proofs.Meaning.{copy-fits}
 use Rattle.definition.proofs.Accepted.{Sound, accepted-sound, Lies, lies}
@@ -193,7 +194,7 @@ class-small Inversion = omega arith
 class-small Unchanged = omega arith
 
 pub reply-fits : (r : Request) (reference alternative : List ℕ) → Fits32 (reply reference alternative (verdict r))
-unfolding reply longestTarget answerRoom
+unfolding reply
 reply-fits r reference alternative = go (verdict r) refl
   where
     go : (v : Verdict) → verdict r ≡ v → Fits32 (reply reference alternative v)
@@ -208,8 +209,8 @@ reply-fits r reference alternative = go (verdict r) refl
     }
     go (answered a) e =
         let s : Small a (length (r .target) + 1) = answer-small r a e in
-        let l : length (r .target) ≤ 65535 = accepted-sound r a e .short in
-        let z : (length (a .what .reference) ≤ 1025) × (length (a .what .alternative) ≤ 1025) = answer-short r a e in
+        let l : length (r .target) ≤ longestTarget = accepted-sound r a e .short in
+        let z : (length (a .what .reference) ≤ answerRoom) × (length (a .what .alternative) ≤ answerRoom) = answer-short r a e in
         record {
           refusal = omega arith;
           class = class-small (a .what .class);

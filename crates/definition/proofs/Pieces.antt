@@ -17,6 +17,7 @@ use Rattle.definition.specs.declared.Piece.{Piece}
 use Rattle.definition.specs.declared.Exon.{Exon}
 use Rattle.definition.specs.declared.ExonFound.{ExonFound}
 use Rattle.definition.specs.declared.ExonFound.the-variants.{Holding, NoExon}
+use Rattle.definition.specs.Limits.{openEnd}
 use Rattle.definition.specs.Piece.{pieceFor, pieceFrom, wholePiece, piecesOf, exonHolding, cutAt, exonPiece, transcriptPiece, pieceFor}
 use Rattle.definition.proofs.Tests.{and-true}
 
@@ -83,9 +84,9 @@ transcript-holds exons a b start end o =
     cut-holds b start end (cutAt a start end (exonPiece (exonHolding start exons) (exonHolding (end - 1) exons)))
     (cut-holds a start end (exonPiece (exonHolding start exons) (exonHolding (end - 1) exons)) (exon-holds start end o exons))
 
-pub piece-for-holds : (kind : Kind) (bytes : List ℕ) (a b : Bound) (start end : ℕ) → start < end → end ≤ 2147483647
+pub piece-for-holds : (kind : Kind) (bytes : List ℕ) (a b : Bound) (start end : ℕ) → start < end → end ≤ openEnd
     → Holds start end (pieceFor kind bytes a b start end)
 unfolding pieceFor wholePiece
-piece-for-holds Open bytes a b start end o fits = holds-of (pieceFrom 0 2147483647) (omega arith)
+piece-for-holds Open bytes a b start end o fits = holds-of wholePiece (omega arith)
 piece-for-holds Transcript bytes a b start end o fits = transcript-holds (piecesOf bytes) a b start end o
-piece-for-holds Crossing bytes a b start end o fits = holds-of (pieceFrom 0 2147483647) (omega arith)
+piece-for-holds Crossing bytes a b start end o fits = holds-of wholePiece (omega arith)

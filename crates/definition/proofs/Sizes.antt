@@ -20,7 +20,8 @@ use Rattle.definition.specs.Change.{Change, spelled, altered, referenceO
 use Rattle.definition.specs.Request.{Request, kindOf, editOf, directionOf, startOf, endOf, changeOf}
 use Rattle.definition.specs.Answer.{Named, named, namedInsertion, namedReplacement, firstBaseRule, lastBaseRule, copyBeside, isInversion, hasLastBaseRule}
 use Rattle.definition.specs.Place.{placeOf}
-use Rattle.definition.specs.Verdict.{Answer, answered, verdict, longestAllele, answerRoom, readAlternative, replacedAtOnce, answeredAtOnce, pieceOf, namedAt, normal, normalAt}
+use Rattle.definition.specs.Limits.{longestAllele, answerRoom}
+use Rattle.definition.specs.Verdict.{Answer, answered, verdict, readAlternative, replacedAtOnce, answeredAtOnce, pieceOf, namedAt, normal, normalAt}
 use Rattle.definition.proofs.Final.{named-is}
 use Rattle.definition.proofs.Tests.{none-some, and-true}
 use Rattle.definition.proofs.Accepted.{Sound, accepted-sound, accepted-in, Route, atOnce, moved, route, at-once-what, moved-what}
@@ -166,7 +167,7 @@ shortcut-short Invert r n s a e = absurd (none-some e)
 -- Law 8
 pub answer-short : (r : Request) (a : Answer) → verdict r ≡ answered a
     → (length (a .what .reference) ≤ answerRoom) × (length (a .what .alternative) ≤ answerRoom)
-unfolding changeOf longestAllele answerRoom
+unfolding changeOf
 answer-short r a e = go (route r (pieceOf r) a (accepted-in r a e))
   where
     s : Sound r
@@ -174,7 +175,7 @@ answer-short r a e = go (route r (pieceOf r) a (accepted-in r a e))
 
     go : Route r (pieceOf r) a → (length (a .what .reference) ≤ answerRoom) × (length (a .what .alternative) ≤ answerRoom)
     go (atOnce n f g) =
-        subst (λ (x : Named). (length (x .reference) ≤ 1025) × (length (x .alternative) ≤ 1025)) (at-once-what r n a g)
+        subst (λ (x : Named). (length (x .reference) ≤ answerRoom) × (length (x .alternative) ≤ answerRoom)) (at-once-what r n a g)
         (omega (arith, shortcut-short (editOf (r .editCode)) r n s (s .alternativeSize) f))
     go (moved p n f g h) =
         let b = spelled-short (editOf (r .editCode)) r s (s .alternativeSize) in

@@ -7,6 +7,7 @@ use lib.IntN.{pos, negsuc}
 use Rattle.definition.specs.declared.Refusal.the-variants.{VariantSpanOutsideSequenceBounds}
 use Rattle.definition.specs.declared.Class.{Class}
 use Rattle.definition.specs.declared.Class.the-variants.{Insertion, Duplication, Deletion, Replacement, Inversion, Unchanged}
+use Rattle.definition.specs.Limits.{answerRoom}
 use Rattle.definition.specs.Request.{Request}
 use Rattle.definition.specs.Verdict.{Verdict, refused, answered, verdict}
 
@@ -44,8 +45,8 @@ asks kind exons edit start end alternative direction = record {
   alternative = alternative;
   directionCode = direction;
   window = 20;
-  referenceRoom = 1025;
-  alternativeRoom = 1025;
+  referenceRoom = answerRoom;
+  alternativeRoom = answerRoom;
 }
 
 -- open; one exon 0..12; exons 0..4 and 4..12

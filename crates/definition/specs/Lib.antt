@@ -1,4 +1,5 @@
 pub mod Bases
+pub mod Limits
 pub mod Prefix
 pub mod Change
 pub mod Request

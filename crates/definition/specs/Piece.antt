@@ -15,6 +15,7 @@ use Rattle.definition.specs.declared.Piece.{Piece}
 use Rattle.definition.specs.declared.Exon.{Exon}
 use Rattle.definition.specs.declared.ExonFound.{ExonFound}
 use Rattle.definition.specs.declared.ExonFound.the-variants.{Holding, NoExon}
+use Rattle.definition.specs.Limits.{mostExons, openEnd}
 
 abbrev pub exonFrom : ℕ → ℕ → Exon
 exonFrom s e = record { start = record { 0 = s }; end = record { 0 = e } }
@@ -58,7 +59,7 @@ tablesHold bytes cdsStart cdsEnd size =
     let exons = exonsIn bytes in
     eqb (length bytes) (8 * length exons)
     && leb 1 (length exons)
-    && leb (length exons) 512
+    && leb (length exons) mostExons
     && exonsInOrder size 0 exons
     && boundInTarget size cdsStart
     && boundInTarget size cdsEnd
@@ -74,7 +75,7 @@ pieceFrom l r = record { left = record { 0 = l }; right = record { 0 = r } }
 
 -- open targets and crossing transcripts
 unfoldable pub wholePiece : Piece
-wholePiece = pieceFrom 0 2147483647
+wholePiece = pieceFrom 0 openEnd
 
 -- the exon that holds base p. An exon has start < end <= exon end exactly if it holds base end - 1
 abbrev pub exonHolding : ℕ → List Exon → ExonFound

@@ -22,6 +22,7 @@ use Rattle.definition.specs.declared.PieceFound.the-variants.{InPiece, N
 use Rattle.definition.specs.declared.Class.the-variants.{Replacement, Unchanged}
 use Rattle.definition.specs.declared.Piece.{Piece}
 use Rattle.definition.specs.Bases.{allBases, sameBases}
+use Rattle.definition.specs.Limits.{longestWindow, longestTarget, longestAllele, answerRoom}
 use Rattle.definition.specs.Change.{Change, Trimmed, altered, trimmed}
 use Rattle.definition.specs.Request.{Request, kindOf, editOf, directionOf, boundOf, startOf, endOf, changeOf}
 use Rattle.definition.specs.Piece.{pieceFor, tablesHold}
@@ -36,19 +37,6 @@ pub record Answer : Type 0 where
 pub data Verdict : Type 0 where
   refused : Refusal → Verdict
   answered : Answer → Verdict
-
--- the limits
-unfoldable pub longestTarget : ℕ
-longestTarget = 65535
-
-unfoldable pub longestAllele : ℕ
-longestAllele = 1024
-
-unfoldable pub longestWindow : ℕ
-longestWindow = 1024
-
-unfoldable pub answerRoom : ℕ
-answerRoom = 1025
 
 -- only insertion and replacement read the alternative
 unfoldable pub readAlternative : Edit → List ℕ → List ℕ

@@ -1,5 +1,16 @@
-// The types that every crate shares, so that the definition in specs/ and the code speak of the same ones. There is no code here: what the
-// types mean stands in specs/, the laws in proofs/.
+// The types that every crate shares, so that the definition in specs/ and the code speak of the same ones, and the limits as the code reads them.
+// There is no code here: what the types mean stands in specs/, the laws in proofs/.
+
+// The numbers of specs/Limits.antt. That these are the same follows where they are read: in rows 2, 3, 7 and 9, and in the whole piece.
+pub const LONGEST_WINDOW: u32 = 1024;
+
+pub const LONGEST_TARGET: usize = 65535;
+
+pub const LONGEST_ALLELE: usize = 1024;
+
+pub const ANSWER_ROOM: usize = 1025;
+
+pub const OPEN_END: usize = 2147483647;
 
 // A 0-based position: the bases before it are counted, so it is also the gap before a base.
 pub struct Zero(pub usize);

@@ -23,7 +23,8 @@ use Rattle.rows.specs.Range.{orderedRange, rangeOf, rangeRead}
 use Rattle.rows.proofs.Read.{range-read}
 use Rattle.definition.specs.Bases.{allBases}
 use Rattle.definition.specs.Request.{Request, coordinateOf, kindOf, editOf, directionOf, boundOf, startOf, endOf, changeOf}
-use Rattle.definition.specs.Verdict.{Verdict, verdict, refused, afterShortcuts, shortcut, rows, requestRows, targetRows, changeRows, badCode, badWindow, badTarget, badBase, outOfBounds, badInsertion, tooLong, badAllele, noRoom, badTables, answerIn, answeredAtOnce, pieceOf, refusedOr, sizeOutside, windowOutside, misfits, exceeds, readAlternative, cramped, tablesBroken, longestTarget, longestWindow, longestAllele, answerRoom}
+use Rattle.definition.specs.Limits.{longestWindow, longestTarget, longestAllele, answerRoom}
+use Rattle.definition.specs.Verdict.{Verdict, verdict, refused, afterShortcuts, shortcut, rows, requestRows, targetRows, changeRows, badCode, badWindow, badTarget, badBase, outOfBounds, badInsertion, tooLong, badAllele, noRoom, badTables, answerIn, answeredAtOnce, pieceOf, refusedOr, sizeOutside, windowOutside, misfits, exceeds, readAlternative, cramped, tablesBroken}
 use Rattle.definition.proofs.Tests.{or-false}
 use Rattle.definition.specs.Piece.{tablesHold, pieceFor}
 use Rattle.boundary.specs.InOrder.{ReadInOrder}
@@ -65,29 +66,25 @@ module _ (r : Request) where
           past-row-5 e = rw (e₁, e₂, e₃, e₄, e)
 
 -- what the rows that were passed say
-pub target-short : (size : ℕ) → sizeOutside size ≡ false → size ≤ 65535
-unfolding longestTarget
-target-short size e = ltb-false 65535 size (or-false (eqb size 0) (ltb 65535 size) e .1)
+pub target-short : (size : ℕ) → sizeOutside size ≡ false → size ≤ longestTarget
+target-short size e = ltb-false longestTarget size (or-false (eqb size 0) (ltb longestTarget size) e .1)
 
-pub window-inside : (window : ℕ) → windowOutside window ≡ false → (1 ≤ window) × (window ≤ 1024)
-unfolding longestWindow
+pub window-inside : (window : ℕ) → windowOutside window ≡ false → (1 ≤ window) × (window ≤ longestWindow)
 window-inside window e =
-    let h = or-false (eqb window 0) (ltb 1024 window) e in
+    let h = or-false (eqb window 0) (ltb longestWindow window) e in
     let d : window ≡ 0 → ⊥ = eqb-false window 0 (h .0) in
-    (omega (arith, d), ltb-false 1024 window (h .1))
+    (omega (arith, d), ltb-false longestWindow window (h .1))
 
 pub lengths-inside : (edit : Edit) (start end : ℕ) (alternative : List ℕ) → exceeds edit start end alternative ≡ false
-    → (end - start ≤ 1024) × (length (readAlternative edit alternative) ≤ 1024)
-unfolding longestAllele
+    → (end - start ≤ longestAllele) × (length (readAlternative edit alternative) ≤ longestAllele)
 lengths-inside edit start end alternative e =
-    let h = or-false (ltb 1024 (end - start)) (ltb 1024 (length (readAlternative edit alternative))) e in
-    (ltb-false 1024 (end - start) (h .0), ltb-false 1024 (length (readAlternative edit alternative)) (h .1))
+    let h = or-false (ltb longestAllele (end - start)) (ltb longestAllele (length (readAlternative edit alternative))) e in
+    (ltb-false longestAllele (end - start) (h .0), ltb-false longestAllele (length (readAlternative edit alternative)) (h .1))
 
 pub room-inside : (reference alternative : List ℕ) → cramped (length reference) (length alternative) ≡ false → Room reference alternative
-unfolding answerRoom
 room-inside reference alternative e =
-    let h = or-false (ltb (length reference) 1025) (ltb (length alternative) 1025) e in
-    record { reference = ltb-false (length reference) 1025 (h .0); alternative = ltb-false (length alternative) 1025 (h .1) }
+    let h = or-false (ltb (length reference) answerRoom) (ltb (length alternative) answerRoom) e in
+    record { reference = ltb-false (length reference) answerRoom (h .0); alternative = ltb-false (length alternative) answerRoom (h .1) }
 
 pub tables-inside : (kind : Kind) (exons : List ℕ) (a b : Bound) (size : ℕ) → tablesBroken kind exons a b size ≡ false → ReadInOrder kind exons
 tables-inside Open exons a b size e = tt

@@ -10,6 +10,7 @@ use Rattle.boundary.specs.InOrder.{ReadInOrder}
 use Rattle.definition.specs.declared.Bound.{Bound}
 use Rattle.definition.specs.declared.Direction.{Direction}
 use Rattle.definition.specs.declared.Refusal.the-variants.{BadInsertion, TooLong, BadAllele, NoRoom, BadTables}
+use Rattle.definition.specs.Limits.{longestWindow, longestTarget, longestAllele}
 use Rattle.definition.specs.Change.{spelled}
 use Rattle.definition.specs.Request.{Request}
 use Rattle.definition.specs.Piece.{pieceFor}
@@ -21,11 +22,11 @@ use Rattle.spelling.specs.Asked.{Read}
 pub record Passed (target : List ℕ) (kind : Kind) (exons : List ℕ) (start end : ℕ) (edit : Edit) (alternative : List ℕ) (window : ℕ) : Type 0 where
   pub ordered : start < end
   pub inTarget : end ≤ length target
-  pub short : length target ≤ 65535
-  pub range : end - start ≤ 1024
+  pub short : length target ≤ longestTarget
+  pub range : end - start ≤ longestAllele
   pub read : Read edit start end alternative
   pub some : 1 ≤ window
-  pub most : window ≤ 1024
+  pub most : window ≤ longestWindow
   pub tables : ReadInOrder kind exons
 
 -- the request that the parameters of `normalize` make

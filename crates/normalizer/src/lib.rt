@@ -5,6 +5,7 @@ ghost use mathlib.Core.Bool.{true, false};
 ghost use Prim.Native.Nat.{_<_, _≤_};
 ghost use lib.ListN.{length};
 ghost use Rattle.definition.specs.Bases.{allBases};
+ghost use Rattle.definition.specs.Limits.{longestWindow, longestTarget};
 ghost use Rattle.definition.specs.Change.{spelled};
 ghost use Rattle.definition.specs.Piece.{pieceFor};
 ghost use Rattle.definition.specs.Verdict.{afterPiece, afterShortcuts, shortcut, sizeOutside, verdict};
@@ -142,7 +143,7 @@ fn normalize_range(
     reference_out: &mut [u8],
     alternative_out: &mut [u8],
 ) -> Outcome
-    requires { ⌜ (start .0 < end .0) × (end .0 ≤ length (now target)) × (length (now target) ≤ 65535) × (1 ≤ window) × (window ≤ 1024) ⌝ }
+    requires { ⌜ (start .0 < end .0) × (end .0 ≤ length (now target)) × (length (now target) ≤ longestTarget) × (1 ≤ window) × (window ≤ longestWindow) ⌝ }
     ensures { λ r. ⌜ Met
         (rangeVerdict (now (target .entry)) kind (now (exons .entry)) «cds_start» «cds_end» (start .0) (end .0) edit (now (alternative .entry)) direction
         (length (now («reference_out» .entry))) (length (now («alternative_out» .entry))))

@@ -4,6 +4,7 @@ ghost use mathlib.Core.Path.{_≡_};
 ghost use Prim.Native.Nat.{_+_, _≤_};
 ghost use lib.ListN.{length};
 ghost use lib.Seq.{slice};
+ghost use Rattle.definition.specs.Limits.{longestTarget, longestAllele};
 ghost use Rattle.definition.specs.Answer.{firstBaseRule, hasLastBaseRule, lastBaseRule};
 ghost use Rattle.definition.specs.Verdict.{answered, answeredOr16, namedAt};
 ghost use Rattle.definition.specs.Reply.{written, Met};
@@ -71,7 +72,7 @@ fn has_last_base_rule(kind: Kind) -> bool
 
 // A result end past the last base becomes the last base, with that base before the alternative.
 fn last_base_rule(target: &[u8], kind: Kind, called: Called) -> Called
-    requires { ⌜ (1 ≤ length (now target)) × (length (now target) ≤ 65535) ⌝ }
+    requires { ⌜ (1 ≤ length (now target)) × (length (now target) ≤ longestTarget) ⌝ }
     ensures { λ r. ⌜ Applies (lastBaseRule kind (now (target .entry))) (now (target .entry)) called r ⌝ }
 {
     if !has_last_base_rule(kind) {
@@ -102,7 +103,7 @@ fn leaves_target(
     reference_size: usize,
     count: usize,
 ) -> bool
-    requires { ⌜ (place .0 ≤ length (now target)) × (length (now target) ≤ 65535) × (count ≤ 1024) ⌝ }
+    requires { ⌜ (place .0 ≤ length (now target)) × (length (now target) ≤ longestTarget) × (count ≤ longestAllele) ⌝ }
     ensures { λ r. ⌜ Leaves direction piece (now (target .entry)) (place .0) «reference_size» count r ⌝ }
 {
     match direction {

@@ -11,7 +11,8 @@ use Rattle.definition.specs.declared.Edit.{Edit}
 use Rattle.definition.specs.declared.Edit.the-variants.{Insert, Duplicate, Delete, Replace, Invert}
 use Rattle.definition.specs.Bases.{allBases}
 use Rattle.definition.specs.Request.{coordinateOf}
-use Rattle.definition.specs.Verdict.{longestAllele, readAlternative, exceeds}
+use Rattle.definition.specs.Limits.{longestAllele}
+use Rattle.definition.specs.Verdict.{readAlternative, exceeds}
 use Rattle.rows.specs.Range.{rangeOf, rangeRead, reads}
 
 not-below : (a : ℕ) → ltb a 0 ≡ false
@@ -30,8 +31,8 @@ range-read (negsuc a) (negsuc b) size = refl
 
 -- an alternative that is not read is as long as none
 pub exceeds-read : (edit : Edit) (start end : ℕ) (alternative : List ℕ)
-    → (ltb 1024 (end - start) || (reads edit && ltb 1024 (length alternative))) ≡ exceeds edit start end alternative
-unfolding readAlternative longestAllele
+    → (ltb longestAllele (end - start) || (reads edit && ltb longestAllele (length alternative))) ≡ exceeds edit start end alternative
+unfolding readAlternative
 exceeds-read Insert start end alternative = refl
 exceeds-read Duplicate start end alternative = refl
 exceeds-read Delete start end alternative = refl

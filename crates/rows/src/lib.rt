@@ -6,10 +6,14 @@ ghost use lib.ListN.{length};
 ghost use Rattle.definition.specs.Bases.{allBases};
 ghost use Rattle.definition.specs.Verdict.{unlisted, windowOutside, sizeOutside, misfits, exceeds, readAlternative, cramped, tablesBroken};
 ghost use Rattle.rows.specs.Range.{orderedRange, rangeOf, rangeRead, reads};
+use definition::ANSWER_ROOM;
 use definition::Bound;
 use definition::Coordinate;
 use definition::Edit;
 use definition::Kind;
+use definition::LONGEST_ALLELE;
+use definition::LONGEST_TARGET;
+use definition::LONGEST_WINDOW;
 use definition::Zero;
 
 // The range, if it lies in the target.
@@ -25,18 +29,18 @@ pub fn bad_code(kind: u32, edit: u32, direction: u32) -> bool
     (2 < kind) | (4 < edit) | (1 < direction)
 }
 
-// Row 2: the window is 0 or above 1,024.
+// Row 2: the window is 0 or longer than the longest.
 pub fn bad_window(window: u32) -> bool
     ensures { λ r. ⌜ r ≡ windowOutside window ⌝ }
 {
-    (window == 0) | (1024 < window)
+    (window == 0) | (LONGEST_WINDOW < window)
 }
 
-// Row 3: the target has no base or more than 65,535.
+// Row 3: the target has no base or more than the longest.
 pub fn bad_target(size: usize) -> bool
     ensures { λ r. ⌜ r ≡ sizeOutside size ⌝ }
 {
-    (size == 0) | (65535 < size)
+    (size == 0) | (LONGEST_TARGET < size)
 }
 
 // Two positions in their order, inside the target.
@@ -104,13 +108,13 @@ pub fn reads_alternative(edit: Edit) -> bool
     }
 }
 
-// Row 7: the range, or an alternative that is read, has more than 1,024 bases.
+// Row 7: the range, or an alternative that is read, has more bases than the longest allele.
 pub fn too_long(edit: Edit, start: Zero, end: Zero, alternative: &[u8]) -> bool
     requires { ⌜ start .0 ≤ end .0 ⌝ }
     ensures { λ r. ⌜ r ≡ exceeds edit (start .0) (end .0) (now (alternative .entry)) ⌝ }
 {
     let reads = reads_alternative(edit);
-    (1024 < end.0 - start.0) | (reads & (1024 < alternative.len()))
+    (LONGEST_ALLELE < end.0 - start.0) | (reads & (LONGEST_ALLELE < alternative.len()))
 }
 
 // Row 8: an alternative that is read holds a byte that is no base.
@@ -123,11 +127,11 @@ pub fn bad_allele(edit: Edit, alternative: &[u8]) -> bool
     false
 }
 
-// Row 9: an answer buffer is shorter than 1,025 bytes.
+// Row 9: an answer buffer has no room for the longest answer.
 pub fn no_room(reference: usize, alternative: usize) -> bool
     ensures { λ r. ⌜ r ≡ cramped reference alternative ⌝ }
 {
-    (reference < 1025) | (alternative < 1025)
+    (reference < ANSWER_ROOM) | (alternative < ANSWER_ROOM)
 }
 
 // Row 10: a transcript that does not cross breaks a table rule.

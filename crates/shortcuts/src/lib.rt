@@ -3,6 +3,7 @@ ghost use mathlib.Core.Path.{_≡_};
 ghost use Prim.Native.Nat.{_-_, _<_, _≤_};
 ghost use lib.ListN.{length};
 ghost use lib.Seq.{slice};
+ghost use Rattle.definition.specs.Limits.{longestTarget, longestAllele};
 ghost use Rattle.definition.specs.Verdict.{answered, answerAtOnce};
 ghost use Rattle.definition.specs.Reply.{Met};
 ghost use Rattle.results.specs.Asked.{Room};
@@ -65,8 +66,8 @@ pub fn answer_in_place(
     reference_out: &mut [u8],
     alternative_out: &mut [u8],
 ) -> Outcome
-    requires { ⌜ (start .0 < end .0) × (end .0 ≤ length (now target)) × (length (now target) ≤ 65535) ⌝ }
-    requires { ⌜ (end .0 - start .0 ≤ 1024) × (length (now alternative) ≤ 1024) ⌝ }
+    requires { ⌜ (start .0 < end .0) × (end .0 ≤ length (now target)) × (length (now target) ≤ longestTarget) ⌝ }
+    requires { ⌜ (end .0 - start .0 ≤ longestAllele) × (length (now alternative) ≤ longestAllele) ⌝ }
     requires { ⌜ Room (now «reference_out») (now «alternative_out») ⌝ }
     ensures { λ r. ⌜ Met
         (answered (answerAtOnce (inPlace class (now (target .entry)) (start .0) (end .0) (now (alternative .entry)))))

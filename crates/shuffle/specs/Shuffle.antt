@@ -7,6 +7,7 @@ use lib.ListN.{length}
 use lib.Seq.{slice}
 use Rattle.definition.specs.declared.Direction.{Direction}
 use Rattle.definition.specs.declared.Piece.{Piece}
+use Rattle.definition.specs.Limits.{longestWindow, longestAllele}
 use Rattle.definition.specs.Change.{Change, splice, altered, trimmed}
 use Rattle.definition.specs.Place.{rightEdge, furthest, stoppedByBase, placeOf, probesOf}
 use Rattle.alleles.specs.declared.Allele.{Allele}
@@ -17,10 +18,10 @@ use Rattle.shuffle.specs.declared.Stepped.{Stepped}
 
 -- the longest allele and the longest window: both together fill the rotating buffer
 pub record Sizes (k m most : ℕ) : Type 0 where
-  pub reference : k ≤ 1024
-  pub alternative : m ≤ 1024
+  pub reference : k ≤ longestAllele
+  pub alternative : m ≤ longestAllele
   pub window : 1 ≤ most
-  pub longest : most ≤ 1024
+  pub longest : most ≤ longestWindow
 
 -- one window rightward: the bases behind the change up to the edge, at most so many
 pub record SteppedRight (target : List ℕ) (place k edge most : ℕ) (r a r′ a′ : List ℕ) (s : Stepped) : Type 0 where

@@ -9,6 +9,7 @@ use lib.Seq.{slice}
 use Rattle.definition.specs.declared.Direction.{Direction}
 use Rattle.definition.specs.declared.Kind.{Kind}
 use Rattle.definition.specs.declared.Piece.{Piece}
+use Rattle.definition.specs.Limits.{longestTarget, longestAllele}
 use Rattle.definition.specs.Change.{Change, altered, trimmed, trimmedBy, Trimmed}
 use Rattle.definition.specs.Place.{placeOf, probesOf}
 use Rattle.definition.specs.Answer.{Named}
@@ -31,15 +32,15 @@ module _ (direction : Direction) (kind : Kind) (piece : Piece) (target : List �
   q = placeOf direction piece target (altered target c) t
 
   -- the alleles of the trimmed change are no longer than those of the spelled one
-  reference-short : t .referenceSize ≤ 1024
+  reference-short : t .referenceSize ≤ longestAllele
   unfolding trimmed trimmedBy
   reference-short = omega (arith, length-reference target c (asked .order) (from-edge piece target (asked .right) .1), asked .sizes .reference)
 
-  alternative-short : t .alternativeSize ≤ 1024
+  alternative-short : t .alternativeSize ≤ longestAllele
   unfolding trimmed trimmedBy
   alternative-short = omega (arith, asked .sizes .alternative)
 
-  pub moved-asked : 1 ≤ length target → length target ≤ 65535
+  pub moved-asked : 1 ≤ length target → length target ≤ longestTarget
       → result.Settled target (s .place .0) (s .reference .count) (s .alternative .head) (s .alternative .count)
   moved-asked big short = record {
     nonempty = big;

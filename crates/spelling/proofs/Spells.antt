@@ -12,6 +12,7 @@ use Rattle.definition.specs.declared.Edit.{Edit}
 use Rattle.definition.specs.declared.Edit.the-variants.{Insert, Duplicate, Delete, Replace, Invert}
 use Rattle.definition.specs.declared.Piece.{Piece}
 use Rattle.definition.specs.Bases.{complement, reverseComplement}
+use Rattle.definition.specs.Limits.{longestAllele}
 use Rattle.definition.specs.Change.{spelled}
 use Rattle.definition.specs.Place.{rightEdge}
 use Rattle.definition.specs.Reply.{written}
@@ -47,7 +48,7 @@ module _ (piece : Piece) (target : List ℕ) (start end window : ℕ) (r : Range
   unfolding rightEdge
   below-edge n h = omega (arith, r .inTarget, r .right)
 
-  asked-of : (from to : ℕ) (inserted : List ℕ) → start ≤ from → from ≤ to → to ≤ end → length inserted ≤ 1024
+  asked-of : (from to : ℕ) (inserted : List ℕ) → start ≤ from → from ≤ to → to ≤ end → length inserted ≤ longestAllele
       → Asked piece target (record { from = from; to = to; inserted = inserted }) window
   asked-of from to inserted h i j k = record {
     sizes = record { reference = omega (arith, r .range); alternative = k; window = r .some; longest = r .most };

@@ -3,6 +3,7 @@ ghost use mathlib.Core.List.{[]};
 ghost use Prim.Native.Nat.{_≤_};
 ghost use lib.ListN.{length};
 ghost use Rattle.definition.specs.declared.Edit.the-variants.{Invert};
+ghost use Rattle.definition.specs.Limits.{longestTarget};
 ghost use Rattle.definition.specs.Change.{spelled};
 ghost use Rattle.definition.specs.Verdict.{movedIn};
 ghost use Rattle.definition.specs.Reply.{Met};
@@ -12,6 +13,7 @@ ghost use Rattle.spelling.specs.Asked.{Ranged, Read};
 use definition::Direction;
 use definition::Edit;
 use definition::Kind;
+use definition::LONGEST_ALLELE;
 use definition::Outcome;
 use definition::Piece;
 use definition::Zero;
@@ -54,7 +56,7 @@ fn moved(
     alternative_out: &mut [u8],
 ) -> Outcome
     requires { ⌜ Asked piece (now target) (record { from = from .0; to = to .0; inserted = now inserted }) window ⌝ }
-    requires { ⌜ (1 ≤ length (now target)) × (length (now target) ≤ 65535) ⌝ }
+    requires { ⌜ (1 ≤ length (now target)) × (length (now target) ≤ longestTarget) ⌝ }
     requires { ⌜ Room (now «reference_out») (now «alternative_out») ⌝ }
     ensures { λ r. ⌜ Met
         (movedIn direction kind piece (now (target .entry)) (record { from = from .0; to = to .0; inserted = now (inserted .entry) }))
@@ -101,7 +103,7 @@ fn inverted(
 {
     let from = start.0;
     let to = end.0;
-    let mut buffer = [0u8; 1024];
+    let mut buffer = [0u8; LONGEST_ALLELE];
     let size = sequences::revcomp(&target[from..to], &mut buffer);
     moved(
         target,

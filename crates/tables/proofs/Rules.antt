@@ -7,6 +7,7 @@ use native.Mathlib.Omega.{arith}
 use borrow.Author.Tests.{eq-eqb, ne-eqb, le-leb, lt-leb, not-true, not-false}
 use lib.ListN.{length}
 use Rattle.definition.specs.declared.Bound.{Bound}
+use Rattle.definition.specs.Limits.{mostExons}
 use Rattle.definition.specs.Piece.{exonsIn, exonsInOrder, boundInTarget, boundsInOrder, tablesHold}
 use Rattle.tables.proofs.Pairs.{pairs-count}
 
@@ -23,16 +24,16 @@ module _ (bytes : List ℕ) (cdsStart cdsEnd : Bound) (size : ℕ) where
         lt-leb 1 (length (exonsIn bytes)) (omega (arith, pairs-count bytes)),
       )
 
-  pub too-many : length bytes % 8 ≡ 0 → 4096 < length bytes → false ≡ tablesHold bytes cdsStart cdsEnd size
+  pub too-many : length bytes % 8 ≡ 0 → 8 * mostExons < length bytes → false ≡ tablesHold bytes cdsStart cdsEnd size
   unfolding tablesHold
   too-many w h =
       rw (
         eq-eqb (length bytes) (8 * length (exonsIn bytes)) (omega (arith, pairs-count bytes)),
         le-leb 1 (length (exonsIn bytes)) (omega (arith, pairs-count bytes)),
-        lt-leb (length (exonsIn bytes)) 512 (omega (arith, pairs-count bytes)),
+        lt-leb (length (exonsIn bytes)) mostExons (omega (arith, pairs-count bytes)),
       )
 
-  pub rules-left : length bytes % 8 ≡ 0 → 8 ≤ length bytes → length bytes ≤ 4096 → (holds : Bool)
+  pub rules-left : length bytes % 8 ≡ 0 → 8 ≤ length bytes → length bytes ≤ 8 * mostExons → (holds : Bool)
       → holds ≡ (exonsInOrder size 0 (exonsIn bytes) && boundInTarget size cdsStart && boundInTarget size cdsEnd && boundsInOrder cdsStart cdsEnd)
       → holds ≡ tablesHold bytes cdsStart cdsEnd size
   unfolding tablesHold
@@ -40,7 +41,7 @@ module _ (bytes : List ℕ) (cdsStart cdsEnd : Bound) (size : ℕ) where
       rw (
         eq-eqb (length bytes) (8 * length (exonsIn bytes)) (omega (arith, pairs-count bytes)),
         le-leb 1 (length (exonsIn bytes)) (omega (arith, pairs-count bytes)),
-        le-leb (length (exonsIn bytes)) 512 (omega (arith, pairs-count bytes)),
+        le-leb (length (exonsIn bytes)) mostExons (omega (arith, pairs-count bytes)),
       ) e
 
 -- a rule that a function tested, by its answer r

@@ -3,6 +3,7 @@ use mathlib.Core.Path.{sym, _∙_}
 use Rattle.normalizer.proofs.Answers.{refused-met}
 use Rattle.normalizer.proofs.Rows.{row-6, row-7, row-8, row-9, row-10, past-row-10, lengths-inside, room-inside, tables-inside}
 use borrow.Author.Needs.{needs}
+use lib.ListN.{length}
 use Rattle.normalizer.proofs.normalize_range.Statement.{statement}
 use Rattle.normalizer.proofs.normalize_range.Tie as tie
 
@@ -36,7 +37,7 @@ no-room-requires c κs = search needs
 returns-4 : tie.Need-returns-4
 returns-4 c =
     let s = c .before .before .before .before .before .before .before .before .before .before .before .before .before in
-    rw (row-9 (s .args .target .now) (s .args .kind) (s .args .exons .now) (s .args .cds-start) (s .args .cds-end) (s .args .start .0) (s .args .end .0) (s .args .edit) (s .args .alternative .now) (s .args .direction) _ _ (sym (c .before .before .before .before .before .before .before .bad-insertion .ensures) ∙ c .before .before .before .before .before .before .if1 .left) (sym (c .before .before .before .before .before .too-long .ensures) ∙ c .before .before .before .before .if2 .left) (sym (c .before .before .before .bad-allele .ensures) ∙ c .before .before .if3 .left) (sym (c .before .no-room .ensures) ∙ c .if4 .taken)) (refused-met _ _ _)
+    rw (row-9 (s .args .target .now) (s .args .kind) (s .args .exons .now) (s .args .cds-start) (s .args .cds-end) (s .args .start .0) (s .args .end .0) (s .args .edit) (s .args .alternative .now) (s .args .direction) (length (s .args .reference-out .now)) (length (s .args .alternative-out .now)) (sym (c .before .before .before .before .before .before .before .bad-insertion .ensures) ∙ c .before .before .before .before .before .before .if1 .left) (sym (c .before .before .before .before .before .too-long .ensures) ∙ c .before .before .before .before .if2 .left) (sym (c .before .before .before .bad-allele .ensures) ∙ c .before .before .if3 .left) (sym (c .before .no-room .ensures) ∙ c .if4 .taken)) (refused-met _ _ _)
 
 bad-tables-requires : tie.Need-bad-tables-requires
 bad-tables-requires c κs = search needs
@@ -44,7 +45,7 @@ bad-tables-requires c κs = search needs
 returns-5 : tie.Need-returns-5
 returns-5 c =
     let s = c .before .before .before .before .before .before .before .before .before .before .before .before .before .before .before in
-    rw (row-10 (s .args .target .now) (s .args .kind) (s .args .exons .now) (s .args .cds-start) (s .args .cds-end) (s .args .start .0) (s .args .end .0) (s .args .edit) (s .args .alternative .now) (s .args .direction) _ _ (sym (c .before .before .before .before .before .before .before .before .before .bad-insertion .ensures) ∙ c .before .before .before .before .before .before .before .before .if1 .left) (sym (c .before .before .before .before .before .before .before .too-long .ensures) ∙ c .before .before .before .before .before .before .if2 .left) (sym (c .before .before .before .before .before .bad-allele .ensures) ∙ c .before .before .before .before .if3 .left) (sym (c .before .before .before .no-room .ensures) ∙ c .before .before .if4 .left) (sym (c .before .bad-tables .ensures) ∙ c .if5 .taken)) (refused-met _ _ _)
+    rw (row-10 (s .args .target .now) (s .args .kind) (s .args .exons .now) (s .args .cds-start) (s .args .cds-end) (s .args .start .0) (s .args .end .0) (s .args .edit) (s .args .alternative .now) (s .args .direction) (length (s .args .reference-out .now)) (length (s .args .alternative-out .now)) (sym (c .before .before .before .before .before .before .before .before .before .bad-insertion .ensures) ∙ c .before .before .before .before .before .before .before .before .if1 .left) (sym (c .before .before .before .before .before .before .before .too-long .ensures) ∙ c .before .before .before .before .before .before .if2 .left) (sym (c .before .before .before .before .before .bad-allele .ensures) ∙ c .before .before .before .before .if3 .left) (sym (c .before .before .before .no-room .ensures) ∙ c .before .before .if4 .left) (sym (c .before .bad-tables .ensures) ∙ c .if5 .taken)) (refused-met _ _ _)
 
 answer-passed-requires : tie.Need-answer-passed-requires
 answer-passed-requires c κs =
@@ -72,7 +73,7 @@ same-length-2 c = search needs
 returns-6 : tie.Need-returns-6
 returns-6 c =
     let s = c .before .before .before .before .before .before .before .before .before .before .before .before .before .before .before .before .before .before .before .before .before .before in
-    rw (past-row-10 (s .args .target .now) (s .args .kind) (s .args .exons .now) (s .args .cds-start) (s .args .cds-end) (s .args .start .0) (s .args .end .0) (s .args .edit) (s .args .alternative .now) (s .args .direction) _ _ (sym (c .before .before .before .before .before .before .before .before .before .before .before .before .before .before .before .before .bad-insertion .ensures) ∙ c .before .before .before .before .before .before .before .before .before .before .before .before .before .before .before .if1 .left) (sym (c .before .before .before .before .before .before .before .before .before .before .before .before .before .before .too-long .ensures) ∙ c .before .before .before .before .before .before .before .before .before .before .before .before .before .if2 .left) (sym (c .before .before .before .before .before .before .before .before .before .before .before .before .bad-allele .ensures) ∙ c .before .before .before .before .before .before .before .before .before .before .before .if3 .left) (sym (c .before .before .before .before .before .before .before .before .before .before .no-room .ensures) ∙ c .before .before .before .before .before .before .before .before .before .if4 .left) (sym (c .before .before .before .before .before .before .before .before .bad-tables .ensures) ∙ c .before .before .before .before .before .before .before .if5 .left)) (c .before .before .before .before .answer-passed .ensures)
+    rw (past-row-10 (s .args .target .now) (s .args .kind) (s .args .exons .now) (s .args .cds-start) (s .args .cds-end) (s .args .start .0) (s .args .end .0) (s .args .edit) (s .args .alternative .now) (s .args .direction) (length (s .args .reference-out .now)) (length (s .args .alternative-out .now)) (sym (c .before .before .before .before .before .before .before .before .before .before .before .before .before .before .before .before .bad-insertion .ensures) ∙ c .before .before .before .before .before .before .before .before .before .before .before .before .before .before .before .if1 .left) (sym (c .before .before .before .before .before .before .before .before .before .before .before .before .before .before .too-long .ensures) ∙ c .before .before .before .before .before .before .before .before .before .before .before .before .before .if2 .left) (sym (c .before .before .before .before .before .before .before .before .before .before .before .before .bad-allele .ensures) ∙ c .before .before .before .before .before .before .before .before .before .before .before .if3 .left) (sym (c .before .before .before .before .before .before .before .before .before .before .no-room .ensures) ∙ c .before .before .before .before .before .before .before .before .before .if4 .left) (sym (c .before .before .before .before .before .before .before .before .bad-tables .ensures) ∙ c .before .before .before .before .before .before .before .if5 .left)) (c .before .before .before .before .answer-passed .ensures)
 
 pub normalize-range-spec : {M : Type 1} → statement M
 normalize-range-spec =

@@ -11,7 +11,9 @@ sub-result : tie.Need-sub-result
 sub-result c = search needs
 
 returns : tie.Need-returns
-returns c = rw (c .before .before .reads-alternative .ensures) (exceeds-read _ _ _ _)
+returns c =
+    let a = c .before .before .before .before .args in
+    rw (c .before .before .reads-alternative .ensures) (exceeds-read (a .edit) (a .start .0) (a .end .0) (a .alternative .now))
 
 pub too-long-spec : {M : Type 1} → statement M
 too-long-spec = tie.close (tie.spec reads-alternative-requires sub-result returns)

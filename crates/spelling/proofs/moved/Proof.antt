@@ -12,8 +12,7 @@ build-result-requires : tie.Need-build-result-requires
 build-result-requires c κs =
     let m = c .before .before .before .before .before .normalize-alleles in
     let s = c .before .before .before .before .before .before .before .before .before .before in
-    let change : Change = record { from = s .args .from .0; to = s .args .to .0; inserted = s .args .inserted .now } in
-    (
+    let change : Change = record { from = s .args .from .0; to = s .args .to .0; inserted = s .args .inserted .now } in (
       moved-asked (s .args .direction) (s .args .kind) (s .args .piece) (s .args .target .now) change (s .args .window) (s .pre .0) (m .result) (m .ensures) (s .pre .1 .0 .0) (s .pre .1 .0 .1),
       s .pre .1 .1,
     )
