@@ -37,8 +37,7 @@ module _ (bytes : List ℕ) (cdsStart cdsEnd : Bound) (size : ℕ) (holds : tabl
       go true e = refl
       go false e = rw (e, and-false) at holds
 
-  pub table-in-order : InOrder (piecesOf bytes)
-  unfolding piecesOf
+  pub table-in-order : InOrder (exonsIn bytes)
   table-in-order = record { size = size; ordered = exons-ordered }
 
 -- a piece that ends at or before `size`
@@ -78,8 +77,8 @@ cut-within size (At c) start end (InPiece w) h = go (leb end c) (leb c start) re
     go false false t u = rw (t, u) (none-within size _)
 
 module _ (bytes : List ℕ) (cdsStart cdsEnd : Bound) (size : ℕ) (holds : tablesHold bytes cdsStart cdsEnd size ≡ true) (start end : ℕ) where
-  pub transcript-within : Within size (transcriptPiece (piecesOf bytes) cdsStart cdsEnd start end)
-  unfolding transcriptPiece piecesOf
+  pub transcript-within : Within size (transcriptPiece (exonsIn bytes) cdsStart cdsEnd start end)
+  unfolding transcriptPiece
   transcript-within =
       let x = exonHolding start (exonsIn bytes) in
       let y = exonHolding (end - 1) (exonsIn bytes) in
@@ -88,7 +87,7 @@ module _ (bytes : List ℕ) (cdsStart cdsEnd : Bound) (size : ℕ) (holds : tabl
       (exons-within size x y (exon-within start size 0 (exonsIn bytes) (exons-ordered bytes cdsStart cdsEnd size holds))))
 
   pub piece-for-within : Within size (pieceFor Transcript bytes cdsStart cdsEnd start end)
-  unfolding pieceFor
+  unfolding pieceFor piecesOf
   piece-for-within = transcript-within
 
 -- row 16 is not given where the piece ends at or before the target's end

@@ -7,7 +7,7 @@ use Prim.Native.Nat.{ℕ}
 use Rattle.definition.specs.declared.Exon.{Exon}
 use Rattle.definition.specs.declared.Kind.{Kind}
 use Rattle.definition.specs.declared.Kind.the-variants.{Open, Transcript, Crossing}
-use Rattle.definition.specs.Piece.{exonsInOrder, piecesOf}
+use Rattle.definition.specs.Piece.{exonsIn, exonsInOrder}
 
 pub record InOrder (exons : List Exon) : Type 0 where
   pub size : ℕ
@@ -16,5 +16,5 @@ pub record InOrder (exons : List Exon) : Type 0 where
 -- the table in order, if it is read: those of open targets and crossing transcripts are not
 abbrev pub ReadInOrder : Kind → List ℕ → Type 0
 ReadInOrder Open bytes = Unit
-ReadInOrder Transcript bytes = InOrder (piecesOf bytes)
+ReadInOrder Transcript bytes = InOrder (exonsIn bytes)
 ReadInOrder Crossing bytes = Unit

@@ -3,7 +3,7 @@ ghost use mathlib.Core.Path.{_≡_};
 ghost use Prim.Native.Nat.{_<_, min, max};
 ghost use Rattle.definition.specs.declared.Bound.the-variants.{At};
 ghost use Rattle.definition.specs.declared.PieceFound.the-variants.{InPiece};
-ghost use Rattle.definition.specs.Piece.{piecesOf, exonHolding, exonPiece, cutAt, wholePiece, transcriptPiece, pieceFor};
+ghost use Rattle.definition.specs.Piece.{exonsIn, piecesOf, exonHolding, exonPiece, cutAt, wholePiece, transcriptPiece, pieceFor};
 ghost use Rattle.boundary.specs.InOrder.{InOrder, ReadInOrder};
 use definition::Bound;
 use definition::ExonFound;
@@ -17,8 +17,8 @@ use definition::Zero;
 // The exon that holds a base, in a table in order: the first that ends past the base, if it starts at or before it. It is found by halves: the
 // exons before `from` end at or before the base, the one at `to` ends past it.
 pub fn exon_holding(table: &[u8], base: Zero) -> ExonFound
-    requires { ⌜ InOrder (piecesOf (now table)) ⌝ }
-    ensures { λ r. ⌜ r ≡ exonHolding (base .0) (piecesOf (now (table .entry))) ⌝ }
+    requires { ⌜ InOrder (exonsIn (now table)) ⌝ }
+    ensures { λ r. ⌜ r ≡ exonHolding (base .0) (exonsIn (now (table .entry))) ⌝ }
 {
     let exons = table.len() / 8;
     let mut from = 0;
@@ -114,7 +114,7 @@ pub fn get_boundary(
     start: Zero,
     end: Zero,
 ) -> PieceFound
-    requires { ⌜ (start .0 < end .0) × InOrder (piecesOf (now table)) ⌝ }
+    requires { ⌜ (start .0 < end .0) × InOrder (exonsIn (now table)) ⌝ }
     ensures { λ r. ⌜ r ≡ transcriptPiece (piecesOf (now (table .entry))) «cds_start» «cds_end» (start .0) (end .0) ⌝ }
 {
     let first = exon_holding(table, start);

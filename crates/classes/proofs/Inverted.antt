@@ -11,8 +11,8 @@ use Rattle.definition.specs.Bases.{complement, reverseComplement, sameBases}
 use Rattle.definition.specs.Answer.{isInversion}
 use Rattle.rotating.specs.Window.{window}
 use Rattle.rotating.proofs.Laws.{window-length, window-at}
-use Rattle.definition.proofs.Tests.{and-false}
-use Rattle.sequences.proofs.ReverseComplement.{length-reverse-complement, reverse-complement-at}
+use Rattle.definition.proofs.Tests.{and-false, length-reverse-complement}
+use Rattle.sequences.proofs.ReverseComplement.{reverse-complement-at}
 
 module _ (bytes : List ℕ) (head n : ℕ) where
   pub inverted-length : length (reverseComplement (window bytes head n)) ≡ n

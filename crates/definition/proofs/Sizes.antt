@@ -1,13 +1,13 @@
--- Law 8: no allele of an answer is longer than the answer buffers' 1,025 bytes. Assumes nothing.
+-- Law 8: no allele of an answer is longer than an answer buffer. Assumes nothing.
 use mathlib.Core.Path.{_≡_, refl, ap, _∙_, subst}
 use mathlib.Core.Bool.{Bool, true, false, _&&_}
-use mathlib.Core.List.{List, [], _∷_, map}
+use mathlib.Core.List.{List, [], _∷_}
 use mathlib.Core.Option.{none, some}
 use Prim.Native.Nat.{ℕ, suc, _+_, _-_, _≤_}
 use native.Mathlib.Omega.{arith}
 use borrow.Author.Tests.{eqb-true}
 use lib.Dec.{eqb}
-use lib.ListN.{length, take, drop, length-append, length-take, length-drop, length-map, length-reverse}
+use lib.ListN.{length, take, drop, length-append, length-take, length-drop}
 use lib.Seq.{slice}
 use Rattle.definition.specs.declared.Kind.{Kind}
 use Rattle.definition.specs.declared.Edit.{Edit}
@@ -15,7 +15,7 @@ use Rattle.definition.specs.declared.Edit.the-variants.{Insert, Duplicat
 use Rattle.definition.specs.declared.Direction.{Direction}
 use Rattle.definition.specs.declared.Class.the-variants.{Replacement, Unchanged}
 use Rattle.definition.specs.declared.Piece.{Piece}
-use Rattle.definition.specs.Bases.{complement, reverseComplement, sameBases}
+use Rattle.definition.specs.Bases.{sameBases}
 use Rattle.definition.specs.Change.{Change, spelled, altered, referenceOf, trimmed, trimmedBy}
 use Rattle.definition.specs.Request.{Request, kindOf, editOf, directionOf, startOf, endOf, changeOf}
 use Rattle.definition.specs.Answer.{Named, named, namedInsertion, namedReplacement, firstBaseRule, lastBaseRule, copyBeside, isInversion, hasLastBaseRule}
@@ -23,7 +23,7 @@ use Rattle.definition.specs.Place.{placeOf}
 use Rattle.definition.specs.Limits.{longestAllele, answerRoom}
 use Rattle.definition.specs.Verdict.{Answer, answered, verdict, readAlternative, replacedAtOnce, answeredAtOnce, pieceOf, namedAt, normal, normalAt}
 use Rattle.definition.proofs.Final.{named-is}
-use Rattle.definition.proofs.Tests.{none-some, and-true}
+use Rattle.definition.proofs.Tests.{none-some, and-true, length-reverse-complement}
 use Rattle.definition.proofs.Accepted.{Sound, accepted-sound, accepted-in, Route, atOnce, moved, route, at-once-what, moved-what}
 
 slice-short : (f t : ℕ) (l : List ℕ) → length (slice f t l) ≤ t - f
@@ -119,21 +119,13 @@ normal-short direction kind piece target c limit n big r a e =
 spelled-short : (e : Edit) (r : Request) → Sound r → length (readAlternative e (r .alternative)) ≤ longestAllele
     → ((spelled e (r .target) (startOf r) (endOf r) (r .alternative)) .to - (spelled e (r .target) (startOf r) (endOf r) (r .alternative)) .from ≤ longestAllele)
     × (length ((spelled e (r .target) (startOf r) (endOf r) (r .alternative)) .inserted) ≤ longestAllele)
-unfolding spelled readAlternative reverseComplement
+unfolding spelled readAlternative
 spelled-short Insert r s a = omega arith
 spelled-short Duplicate r s a = omega (arith, slice-short (startOf r) (endOf r) (r .target), s .rangeSize)
 spelled-short Delete r s a = omega (arith, s .rangeSize)
 spelled-short Replace r s a = omega (arith, s .rangeSize)
-spelled-short Invert r s a = (
-  s .rangeSize,
-  omega (
-    arith,
-    slice-short (startOf r) (endOf r) (r .target),
-    s .rangeSize,
-    length-reverse (map complement (slice (startOf r) (endOf r) (r .target))),
-    length-map (slice (startOf r) (endOf r) (r .target)) complement,
-  ),
-)
+spelled-short Invert r s a =
+    omega (arith, slice-short (startOf r) (endOf r) (r .target), s .rangeSize, length-reverse-complement (slice (startOf r) (endOf r) (r .target)))
 
 at-once-short : (start end : ℕ) (ref alt : List ℕ) (limit : ℕ) (n : Named) → length ref ≤ limit → length alt ≤ limit → replacedAtOnce start end ref alt ≡ some n
     → Short limit n

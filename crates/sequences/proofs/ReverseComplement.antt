@@ -1,4 +1,4 @@
--- The reverse complement: how long it is, and which base stands at each place. Assumes nothing.
+-- The reverse complement: which base stands at each place. Assumes nothing.
 use Prim.Native.Nat.{ℕ, suc, _-_, _<_}
 use native.Mathlib.Omega.{arith}
 use native.Mathlib.Nat.{eq-or-lt-of-le}
@@ -24,10 +24,6 @@ getD-reverse (x ∷ xs) i h = rw (reverse-cons x xs) (⊎-elim last (λ l. earli
     earlier l rest =
         let z : suc (length xs) - 1 - i ≡ suc (length xs - 1 - i) = omega arith in
         rw z (List·getD-append (reverse xs) (x ∷ []) 0 i (omega (arith, length-reverse xs)) ∙ rest)
-
-pub length-reverse-complement : (xs : List ℕ) → length (reverseComplement xs) ≡ length xs
-unfolding reverseComplement
-length-reverse-complement xs = length-reverse (map complement xs) ∙ length-map xs complement
 
 pub reverse-complement-at : (xs : List ℕ) (i : ℕ) → i < length xs → getD (reverseComplement xs) i 0 ≡ complement (getD xs (length xs - 1 - i) 0)
 unfolding reverseComplement complement

@@ -1,29 +1,25 @@
 -- The change that each edit spells lies in the range, and is what the shuffle asks for. Assumes nothing.
 use mathlib.Core.Path.{_≡_, refl, sym, ap₂, _∙_}
 use mathlib.Core.Bool.{not}
-use mathlib.Core.List.{List, [], map}
+use mathlib.Core.List.{List, []}
 use Prim.Native.Nat.{ℕ, _+_, _-_, _≤_}
 use native.Mathlib.Omega.{arith}
 use borrow.Author.Tests.{eqb-true, not-false}
 use lib.Dec.{eqb}
-use lib.ListN.{length, take, drop, length-map, length-reverse}
+use lib.ListN.{length, take, drop}
 use lib.Seq.{slice, length-slice, take-append-seam}
 use Rattle.definition.specs.declared.Edit.{Edit}
 use Rattle.definition.specs.declared.Edit.the-variants.{Insert, Duplicate, Delete, Replace, Invert}
 use Rattle.definition.specs.declared.Piece.{Piece}
-use Rattle.definition.specs.Bases.{complement, reverseComplement}
+use Rattle.definition.specs.Bases.{reverseComplement}
 use Rattle.definition.specs.Limits.{longestAllele}
 use Rattle.definition.specs.Change.{spelled}
 use Rattle.definition.specs.Place.{rightEdge}
 use Rattle.definition.specs.Reply.{written}
 use Rattle.definition.specs.Verdict.{readAlternative}
-use Rattle.definition.proofs.Tests.{or-false}
+use Rattle.definition.proofs.Tests.{or-false, length-reverse-complement}
 use Rattle.shuffle.specs.Shuffle.{Asked}
 use Rattle.spelling.specs.Asked.{Ranged, Read}
-
-pub inverted-size : (xs : List ℕ) → length (reverseComplement xs) ≡ length xs
-unfolding reverseComplement
-inverted-size xs = length-reverse (map complement xs) ∙ length-map xs complement
 
 -- what was written at the front of a buffer is read back
 pub read-back : (xs buffer : List ℕ) → take (length xs) (written xs buffer) ≡ xs
@@ -33,7 +29,7 @@ read-back xs buffer = take-append-seam xs (drop (length xs) buffer)
 pub inverted-back : (part buffer buffer′ : List ℕ) (n : ℕ) → n ≡ length part → buffer′ ≡ written (reverseComplement part) buffer
     → take n buffer′ ≡ reverseComplement part
 inverted-back part buffer buffer′ n e f =
-    ap₂ (λ (m : ℕ) (x : List ℕ). take m x) (e ∙ sym (inverted-size part)) f ∙ read-back (reverseComplement part) buffer
+    ap₂ (λ (m : ℕ) (x : List ℕ). take m x) (e ∙ sym (length-reverse-complement part)) f ∙ read-back (reverseComplement part) buffer
 
 -- an inversion reads no alternative
 pub reads-nothing : (start end : ℕ) → Read Invert start end []
@@ -68,4 +64,4 @@ module _ (piece : Piece) (target : List ℕ) (start end window : ℕ) (r : Range
   asks Replace alternative a = asked-of start end alternative (omega arith) (omega (arith, r .ordered)) (omega arith) (a .size)
   asks Invert alternative a =
       asked-of start end (reverseComplement (slice start end target)) (omega arith) (omega (arith, r .ordered)) (omega arith)
-      (omega (arith, inverted-size (slice start end target), size, r .range))
+      (omega (arith, length-reverse-complement (slice start end target), size, r .range))

@@ -4,7 +4,7 @@ use mathlib.Core.Path.{_≡_, refl, sym, subst, _∙_}
 use Prim.Native.Nat.{ℕ, _+_, _-_, _/_, _≤_}
 use native.Mathlib.Omega.{arith}
 use lib.ListN.{length, drop}
-use Rattle.definition.specs.Piece.{exonsIn, piecesOf, exonHolding}
+use Rattle.definition.specs.Piece.{exonsIn, exonHolding}
 use Rattle.tables.proofs.Pairs.{no-more}
 use Rattle.boundary.proofs.Order.{EndsPast, in-order-drop, held-here, held-behind, held-nowhere}
 use Rattle.boundary.proofs.exon_holding.Statement.{statement}
@@ -47,7 +47,6 @@ loop-less-2 : tie.Need-loop-less-2 Inv-loop μ-loop
 loop-less-2 c = omega arith
 
 loop-again-2 : tie.Need-loop-again-2 Inv-loop μ-loop
-unfolding piecesOf
 loop-again-2 c =
     let turn = c .before .before .before in
     let top = turn .before .before in
@@ -60,7 +59,6 @@ loop-again-2 c =
     )
 
 returns : tie.Need-returns Inv-loop μ-loop
-unfolding piecesOf
 returns c =
     let top = c .before .before in
     rw (no-more (top .before .before .args .table .now) (top .loop .from) (omega arith)) at (top .loop .inv .2)
@@ -71,7 +69,6 @@ exon-at-requires-2 c κs =
     omega arith
 
 returns-2 : tie.Need-returns-2 Inv-loop μ-loop
-unfolding piecesOf
 returns-2 c =
     let turn = c .before .before .before in
     let top = turn .before .before .before in
@@ -80,7 +77,6 @@ returns-2 c =
     held-nowhere _ _ _ _ (turn .exon-at2 .ensures) ordered (c .if3 .taken) ∙ top .loop .inv .2
 
 returns-3 : tie.Need-returns-3 Inv-loop μ-loop
-unfolding piecesOf
 returns-3 c =
     let turn = c .before .before .before in
     let left = turn .before .before in

@@ -1,6 +1,6 @@
 -- `boundary::get_boundary` meets its contract: its calls are the definition's, in the same order. Assumes nothing.
 use borrow.Author.Needs.{needs}
-use Rattle.definition.specs.Piece.{transcriptPiece}
+use Rattle.definition.specs.Piece.{piecesOf, transcriptPiece}
 use Rattle.boundary.proofs.get_boundary.Statement.{statement}
 use Rattle.boundary.proofs.get_boundary.Tie as tie
 
@@ -23,7 +23,7 @@ cut-at-requires-2 : tie.Need-cut-at-requires-2
 cut-at-requires-2 c κs = search needs
 
 returns : tie.Need-returns
-unfolding transcriptPiece
+unfolding transcriptPiece piecesOf
 returns c =
     let exons = c .before .before in
     rw (

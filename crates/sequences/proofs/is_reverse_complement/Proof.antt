@@ -7,7 +7,8 @@ use borrow.Author.Needs.{needs}
 use lib.ListN.{drop}
 use Rattle.definition.specs.Bases.{reverseComplement, sameBases}
 use Rattle.sequences.proofs.SameBases.{not-as-long, same-next, same-all}
-use Rattle.sequences.proofs.ReverseComplement.{length-reverse-complement, reverse-complement-at}
+use Rattle.definition.proofs.Tests.{length-reverse-complement}
+use Rattle.sequences.proofs.ReverseComplement.{reverse-complement-at}
 use Rattle.sequences.proofs.is_reverse_complement.Statement.{statement}
 use Rattle.sequences.proofs.is_reverse_complement.Tie as tie
 

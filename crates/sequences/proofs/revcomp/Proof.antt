@@ -6,7 +6,8 @@ use native.Mathlib.Omega.{arith}
 use borrow.Author.Needs.{needs}
 use lib.ListN.{length, take, drop, length-set}
 use Rattle.definition.specs.Bases.{reverseComplement}
-use Rattle.sequences.proofs.ReverseComplement.{length-reverse-complement, reverse-complement-at}
+use Rattle.definition.proofs.Tests.{length-reverse-complement}
+use Rattle.sequences.proofs.ReverseComplement.{reverse-complement-at}
 use Rattle.definition.proofs.Laid.{laid-more, laid-done}
 use Rattle.sequences.proofs.revcomp.Statement.{statement}
 use Rattle.sequences.proofs.revcomp.Tie as tie

@@ -8,7 +8,8 @@ use Rattle.definition.specs.declared.Edit.the-variants.{Invert}
 use Rattle.definition.specs.Bases.{reverseComplement}
 use Rattle.definition.specs.Change.{spelled}
 use Rattle.definition.proofs.Parts.{lent-part}
-use Rattle.spelling.proofs.Spells.{inverted-size, inverted-back, reads-nothing, asks}
+use Rattle.definition.proofs.Tests.{length-reverse-complement}
+use Rattle.spelling.proofs.Spells.{inverted-back, reads-nothing, asks}
 use borrow.Author.Needs.{needs}
 use Rattle.spelling.proofs.inverted.Statement.{statement}
 use Rattle.spelling.proofs.inverted.Tie as tie
@@ -35,7 +36,7 @@ slice-aggregate-moved : tie.Need-slice-aggregate-moved
 slice-aggregate-moved c =
     let s = c .before .before .before .before .before .before .before .before in
     let v = c .before .before .revcomp in
-    v .ensures .0 ∙ sym (inverted-size (take (s .args .end .0 - s .args .start .0) (drop (s .args .start .0) (s .args .target .now)))) ∙ sym (ap length (inverted-back (take (s .args .end .0 - s .args .start .0) (drop (s .args .start .0) (s .args .target .now))) _ _ (v .result) (v .ensures .0) (v .ensures .1)))
+    v .ensures .0 ∙ sym (length-reverse-complement (take (s .args .end .0 - s .args .start .0) (drop (s .args .start .0) (s .args .target .now)))) ∙ sym (ap length (inverted-back (take (s .args .end .0 - s .args .start .0) (drop (s .args .start .0) (s .args .target .now))) _ _ (v .result) (v .ensures .0) (v .ensures .1)))
 
 moved-requires : tie.Need-moved-requires
 unfolding spelled
