@@ -1,10 +1,13 @@
 // The records of stored answers: where each part of a record lies among the file's bytes, what `normalize` answers to its request, and where
 // that differs from what is stored. Every length that the file gives is tested before it ends a part.
 ghost use mathlib.Core.Path.{_≡_};
-ghost use Prim.Native.Nat.{_≤_};
-ghost use lib.ListN.{length};
-ghost use Rattle.terminal.specs.Text.{partOf};
+ghost use Prim.Native.Nat.{_≤_, _<_};
+ghost use lib.ListN.{length, getD};
+ghost use Rattle.definition.specs.Limits.{answerRoom};
+ghost use Rattle.definition.specs.Reply.{written};
 ghost use Rattle.records.specs.Format.{numberAt, signedOf, signedLongOf, partAt, numbersAt, requestAt, storedAt};
+ghost use Rattle.records.specs.Replay.{filled, partIn, replyTo, holdsAllele, numbersOf, replyOf, comparedWith};
+use definition::ANSWER_ROOM;
 use definition::Outcome;
 
 // The most bytes that a file may have.
@@ -56,7 +59,7 @@ pub struct Stored {
 }
 
 // What `normalize` answers, in numbers: 0 where a refusal has none.
-pub struct Reply {
+pub struct ReplyNumbers {
     pub refusal: u32,
     pub class: u32,
     pub start: usize,
@@ -209,7 +212,7 @@ pub fn stored_at(file: &[u8], at: usize) -> Stored
 
 // The bytes of a part: none where it does not lie in the file.
 fn bytes_of<'a>(file: &'a [u8], part: Part) -> &'a [u8]
-    ensures { λ r. ⌜ now r ≡ partOf (now (file .entry)) (part .from) (part .to) ⌝ }
+    ensures { λ r. ⌜ now r ≡ partIn (now (file .entry)) part ⌝ }
 {
     let from = part.from;
     let to = part.to;
@@ -217,9 +220,11 @@ fn bytes_of<'a>(file: &'a [u8], part: Part) -> &'a [u8]
 }
 
 // What comes back of a request, in numbers.
-fn in_numbers(outcome: Outcome) -> Reply {
+fn in_numbers(outcome: Outcome) -> ReplyNumbers
+    ensures { λ r. ⌜ r ≡ numbersOf outcome ⌝ }
+{
     match outcome {
-        Outcome::Refuse(refusal) => Reply {
+        Outcome::Refuse(refusal) => ReplyNumbers {
             refusal: codes::refusal_number(refusal),
             class: 0,
             start: 0,
@@ -230,7 +235,7 @@ fn in_numbers(outcome: Outcome) -> Reply {
         },
         Outcome::Answer(answer) => {
             let class = answer.class;
-            Reply {
+            ReplyNumbers {
                 refusal: 0,
                 class: codes::class_number(class),
                 start: answer.start.0,
@@ -243,33 +248,70 @@ fn in_numbers(outcome: Outcome) -> Reply {
     }
 }
 
+// The byte at a place of a buffer that holds an allele, and behind it what filled the buffer.
+fn held_at(allele: &[u8], i: usize) -> u8
+    requires { ⌜ i < answerRoom ⌝ }
+    ensures { λ r. ⌜ r ≡ getD (written (now (allele .entry)) filled) i 0 ⌝ }
+{
+    if i < allele.len() {
+        return allele[i];
+    }
+    FILL
+}
+
 // Whether a buffer holds an allele of so many bases, and behind it what filled the buffer.
-fn holds_allele(buffer: &[u8; 1025], size: usize, allele: &[u8]) -> bool {
+fn holds_allele(buffer: &[u8], size: usize, allele: &[u8]) -> bool
+    requires { ⌜ length (now buffer) ≡ answerRoom ⌝ }
+    ensures { λ r. ⌜ r ≡ holdsAllele (now (buffer .entry)) size (now (allele .entry)) ⌝ }
+{
     if allele.len() != size {
         return false;
     }
-    if 1025 < size {
+    if ANSWER_ROOM < size {
         return false;
     }
+    let mut same = true;
     let mut i = 0;
-    while i < 1025 {
-        let mut expected = FILL;
-        if i < allele.len() {
-            expected = allele[i];
-        }
-        if buffer[i] != expected {
-            return false;
-        }
+    while i < ANSWER_ROOM {
+        same = same & (buffer[i] == held_at(allele, i));
         i += 1;
     }
-    true
+    same
+}
+
+// Compares all that comes back of a request with what is stored.
+fn compare(
+    file: &[u8],
+    stored: Stored,
+    reply: ReplyNumbers,
+    reference_out: &[u8; ANSWER_ROOM],
+    alternative_out: &[u8; ANSWER_ROOM],
+) -> Compared
+    ensures { λ r. ⌜ r ≡ comparedWith (now (file .entry)) stored
+        (replyOf reply (now («reference_out» .entry)) (now («alternative_out» .entry))) ⌝ }
+{
+    let reference = bytes_of(file, stored.reference);
+    let alternative = bytes_of(file, stored.alternative);
+    Compared {
+        refusal: reply.refusal,
+        class: reply.class,
+        same_refusal: reply.refusal == stored.refusal,
+        same_class: reply.class == stored.class,
+        same_start: reply.start == stored.start as usize,
+        same_end: reply.end == stored.end as usize,
+        same_probes: reply.probes == stored.probes as usize,
+        same_reference: holds_allele(reference_out, reply.reference_size, reference),
+        same_alternative: holds_allele(alternative_out, reply.alternative_size, alternative),
+    }
 }
 
 // Asks for a record's request and compares all that comes back with what is stored.
-pub fn replayed(file: &[u8], request: Request, stored: Stored) -> Compared {
+pub fn replayed(file: &[u8], request: Request, stored: Stored) -> Compared
+    ensures { λ r. ⌜ r ≡ comparedWith (now (file .entry)) stored (replyTo (now (file .entry)) request) ⌝ }
+{
     let asked = request.numbers;
-    let mut reference_out = [FILL; 1025];
-    let mut alternative_out = [FILL; 1025];
+    let mut reference_out = [FILL; ANSWER_ROOM];
+    let mut alternative_out = [FILL; ANSWER_ROOM];
     let outcome = normalizer::normalize(
         bytes_of(file, request.target),
         asked.kind,
@@ -285,18 +327,11 @@ pub fn replayed(file: &[u8], request: Request, stored: Stored) -> Compared {
         &mut reference_out,
         &mut alternative_out,
     );
-    let reply = in_numbers(outcome);
-    let reference = bytes_of(file, stored.reference);
-    let alternative = bytes_of(file, stored.alternative);
-    Compared {
-        refusal: reply.refusal,
-        class: reply.class,
-        same_refusal: reply.refusal == stored.refusal,
-        same_class: reply.class == stored.class,
-        same_start: reply.start == stored.start as usize,
-        same_end: reply.end == stored.end as usize,
-        same_probes: reply.probes == stored.probes as usize,
-        same_reference: holds_allele(&reference_out, reply.reference_size, reference),
-        same_alternative: holds_allele(&alternative_out, reply.alternative_size, alternative),
-    }
+    compare(
+        file,
+        stored,
+        in_numbers(outcome),
+        &reference_out,
+        &alternative_out,
+    )
 }

@@ -1,0 +1,55 @@
+-- `requests::after_option` meets its contract: the option after it begins behind as many values as it has. Assumes nothing.
+use native.Mathlib.Omega.{arith}
+use borrow.Author.Needs.{needs}
+use Rattle.requests.proofs.Options.{after-two, after-one}
+use Rattle.requests.proofs.after_option.Statement.{statement}
+use Rattle.requests.proofs.after_option.Tie as tie
+
+word-requires : tie.Need-word-requires
+word-requires c κs = search needs
+
+name-of-requires : tie.Need-name-of-requires
+name-of-requires c κs = search needs
+
+next-word-requires : tie.Need-next-word-requires
+next-word-requires c κs = search needs
+
+next-word-requires-2 : tie.Need-next-word-requires-2
+next-word-requires-2 c κs = search needs
+
+values-of-requires : tie.Need-values-of-requires
+values-of-requires c κs = search needs
+
+next-word-requires-3 : tie.Need-next-word-requires-3
+next-word-requires-3 c κs = search needs
+
+returns : tie.Need-returns
+returns c =
+    let values = c .before .before in
+    let value = values .before .before in
+    let word = value .before .before in
+    let start = word .before .before in
+    let after = after-two (start .args .text .now) (start .args .at) (word .word .ensures) (value .before .name-of .ensures) (values .values-of .ensures) (value .next-word .ensures .0) (values .before .next-word2 .ensures .0) (c .before .if1 .taken) (c .next-word3 .ensures .0) in
+    (after, (omega arith, omega arith))
+
+returns-2 : tie.Need-returns-2
+returns-2 c =
+    let values = c .before in
+    let value = values .before .before in
+    let word = value .before .before in
+    let start = word .before .before in
+    let after = after-one (start .args .text .now) (start .args .at) (word .word .ensures) (value .before .name-of .ensures) (values .values-of .ensures) (value .next-word .ensures .0) (values .before .next-word2 .ensures .0) (c .if1 .left) in
+    (after, (omega arith, omega arith))
+
+pub after-option-spec : {M : Type 1} → statement M
+after-option-spec =
+    tie.close
+    (tie.spec
+    word-requires
+    name-of-requires
+    next-word-requires
+    next-word-requires-2
+    values-of-requires
+    next-word-requires-3
+    returns
+    returns-2)
