@@ -1,2 +1,4 @@
 -- What the proofs share. Assumes nothing.
+pub mod Came
+pub mod Tables
 pub mod Unique

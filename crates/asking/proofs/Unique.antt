@@ -1,10 +1,18 @@
--- What a contract fixes of a page: any two results that it allows for the same arguments are equal, the count and every byte. The theorems are
--- about the contracts as the source states them. Assumes nothing.
+-- Each public contract decides its result: two results that it allows are equal, and so is every byte of both buffers. Assumes nothing.
+use mathlib.Core.Path.{sym, _∙_}
 use denote.Ref.{now}
 use Rattle.definition.proofs.Fixes.{Fixes}
-use Rattle.terminal.specs.Page.{page}
-use Rattle.terminal.proofs.Unique.{one-page}
-use Rattle.asking.proofs.problems.put_problem.Reads as put-problem
+use Rattle.asking.proofs.ask.Reads as ask
+use Rattle.asking.proofs.path_of.Reads as path-of
 
-pub put-problem-one-page : Fixes (λ κs x at. page (now (at .0)) x) put-problem.Post
-put-problem-one-page κs a x y atX atY p q = one-page p q
+pub path-of-one : Fixes (λ κs x at. now x) path-of.Post
+path-of-one κs a x y atX atY p q = p ∙ sym q
+
+pub ask-one : Fixes (λ κs x at. x) ask.Post
+ask-one κs a x y atX atY p q = p .reached ∙ sym (q .reached)
+
+pub ask-one-reference : Fixes (λ κs x at. now (at .1 .1 .1 .0)) ask.Post
+ask-one-reference κs a x y atX atY p q = p .referenceBuffer ∙ sym (q .referenceBuffer)
+
+pub ask-one-alternative : Fixes (λ κs x at. now (at .1 .1 .1 .1 .0)) ask.Post
+ask-one-alternative κs a x y atX atY p q = p .alternativeBuffer ∙ sym (q .alternativeBuffer)

@@ -1,27 +1,21 @@
-// From words to an outcome: the request that they make is handed to the normalizer with its target and its exon table.
-mod problems;
-mod targets;
-
+// From words to an outcome: the request that they make is handed to the normalizer with its target and its exon table. A file that the words
+// name is read by the caller, who asks for its path and lends its bytes.
+ghost use mathlib.Core.Path.{_≡_};
+ghost use lib.ListN.{length};
+ghost use Rattle.definition.specs.Verdict.{verdict};
+ghost use Rattle.definition.specs.Reply.{Met};
+ghost use Rattle.terminal.specs.Laid.{laidAt};
+ghost use Rattle.asking.specs.Handed.{positionOf, boundNumber, exonsAt, handedTo};
+ghost use Rattle.asking.specs.Reached.{Answers, pathOf, onTarget, onRange, onWords};
 use definition::Outcome;
 use inputs::Exons;
-pub use problems::put_problem;
+use problems::Problem;
 use requests::Asked;
 use requests::Bound;
-use requests::Fault;
 use requests::Interval;
 use requests::Request;
+use targets::File;
 use targets::Target;
-pub use targets::Unread;
-
-// Why words reach no outcome.
-pub enum Problem {
-    Wrong(Fault, usize),
-    Unread(Unread),
-    NoEdit,
-    NoRange,
-    BadExons,
-    TooManyExons,
-}
 
 // What words reach.
 pub enum Reached {
@@ -30,7 +24,9 @@ pub enum Reached {
 }
 
 // A number of the range as the normalizer takes it. One that is too large for it was refused as it was read.
-fn signed(number: u32) -> i32 {
+fn position_of(number: u32) -> i32
+    ensures { λ r. ⌜ r ≡ positionOf number ⌝ }
+{
     if 2147483647 < number {
         return -1;
     }
@@ -38,7 +34,9 @@ fn signed(number: u32) -> i32 {
 }
 
 // A bound of the CDS as the normalizer takes it.
-fn bound_of(bound: Bound) -> i64 {
+fn bound_number(bound: Bound) -> i64
+    ensures { λ r. ⌜ r ≡ boundNumber bound ⌝ }
+{
     match bound {
         Bound::Unbound => -1,
         Bound::At(number) => number as i64,
@@ -46,23 +44,32 @@ fn bound_of(bound: Bound) -> i64 {
 }
 
 // The exon table that a word gives: empty where no word does.
-fn exons_of(text: &[u8], word: usize, table: &mut [u8]) -> Exons {
+fn exons_at(text: &[u8], word: usize, table: &mut [u8]) -> Exons
+    ensures { λ r. ⌜ r ≡ exonsAt (now (text .entry)) word .came ⌝ }
+    ensures { λ r. ⌜ now (table .exit) ≡ laidAt 0 (exonsAt (now (text .entry)) word .bytes) (now (table .entry)) ⌝ }
+{
     if word == requests::NO_WORD {
         return Exons::Table(0);
     }
     inputs::read_exons(terminal::word(text, word), table)
 }
 
-fn normalized(
+// A request is handed on, with its target and its exon table.
+fn hand(
     text: &[u8],
     request: Request,
-    start: i32,
-    end: i32,
+    start: u32,
+    end: u32,
     target: &[u8],
     exons: &[u8],
     reference_out: &mut [u8],
     alternative_out: &mut [u8],
-) -> Outcome {
+) -> Outcome
+    ensures { λ r. ⌜ Met
+        (verdict (handedTo (now (text .entry)) request start end (now (target .entry)) (now (exons .entry))
+        (length (now («reference_out» .entry))) (length (now («alternative_out» .entry)))))
+        r (now («reference_out» .entry)) (now («reference_out» .exit)) (now («alternative_out» .entry)) (now («alternative_out» .exit)) ⌝ }
+{
     let words = request.words;
     let codes = request.codes;
     let bounds = request.bounds;
@@ -72,10 +79,10 @@ fn normalized(
         target,
         codes.kind,
         exons,
-        bound_of(cds_start),
-        bound_of(cds_end),
-        start,
-        end,
+        bound_number(cds_start),
+        bound_number(cds_end),
+        position_of(start),
+        position_of(end),
         codes.edit,
         terminal::word(text, words.alternative),
         codes.direction,
@@ -86,21 +93,26 @@ fn normalized(
 }
 
 // A request from a start to an end, whose target is read.
-fn with_target(
+fn ask_on_target(
     text: &[u8],
     request: Request,
-    start: i32,
-    end: i32,
+    start: u32,
+    end: u32,
     target: &[u8],
     reference_out: &mut [u8],
     alternative_out: &mut [u8],
-) -> Reached {
+) -> Reached
+    ensures { λ r. ⌜ Answers
+        (onTarget (now (text .entry)) request start end (now (target .entry))
+        (length (now («reference_out» .entry))) (length (now («alternative_out» .entry))))
+        r (now («reference_out» .entry)) (now («reference_out» .exit)) (now («alternative_out» .entry)) (now («alternative_out» .exit)) ⌝ }
+{
     let mut space = [0u8; 4104];
     let table: &mut [u8] = &mut space;
-    match exons_of(text, request.words.exons, table) {
+    match exons_at(text, request.words.exons, table) {
         Exons::BadPair => Reached::Problem(Problem::BadExons),
         Exons::TooMany => Reached::Problem(Problem::TooManyExons),
-        Exons::Table(size) => Reached::Outcome(normalized(
+        Exons::Table(size) => Reached::Outcome(hand(
             text,
             request,
             start,
@@ -114,18 +126,32 @@ fn with_target(
 }
 
 // A request that names an edit, from a start to an end.
-fn with_request(
+fn ask_on_range(
     text: &[u8],
     request: Request,
-    start: i32,
-    end: i32,
+    start: u32,
+    end: u32,
+    file: File,
+    bytes: &[u8],
     reference_out: &mut [u8],
     alternative_out: &mut [u8],
-) -> Reached {
+) -> Reached
+    ensures { λ r. ⌜ Answers
+        (onRange (now (text .entry)) request start end file (now (bytes .entry))
+        (length (now («reference_out» .entry))) (length (now («alternative_out» .entry))))
+        r (now («reference_out» .entry)) (now («reference_out» .exit)) (now («alternative_out» .entry)) (now («alternative_out» .exit)) ⌝ }
+{
     let mut space = [0u8; 65536];
     let target: &mut [u8] = &mut space;
-    match targets::read(text, request.words.target, request.words.file, target) {
-        Target::Letters(size) => with_target(
+    match targets::read(
+        text,
+        request.words.target,
+        request.words.file,
+        file,
+        bytes,
+        target,
+    ) {
+        Target::Letters(size) => ask_on_target(
             text,
             request,
             start,
@@ -138,8 +164,29 @@ fn with_request(
     }
 }
 
-// The outcome of the request that words make.
-pub fn ask(text: &[u8], reference_out: &mut [u8], alternative_out: &mut [u8]) -> Reached {
+// The path of the file that words name: empty where they name none.
+pub fn path_of(text: &[u8]) -> &[u8]
+    ensures { λ r. ⌜ now r ≡ pathOf (now (text .entry)) ⌝ }
+{
+    match requests::request_of(text) {
+        Asked::Whole(request) => terminal::word(text, request.words.file),
+        Asked::Broken(_, _) => terminal::part(text, 0, 0),
+    }
+}
+
+// The outcome of the request that words make, where the file that they name is read so.
+pub fn ask(
+    text: &[u8],
+    file: File,
+    bytes: &[u8],
+    reference_out: &mut [u8],
+    alternative_out: &mut [u8],
+) -> Reached
+    ensures { λ r. ⌜ Answers
+        (onWords (now (text .entry)) file (now (bytes .entry))
+        (length (now («reference_out» .entry))) (length (now («alternative_out» .entry))))
+        r (now («reference_out» .entry)) (now («reference_out» .exit)) (now («alternative_out» .entry)) (now («alternative_out» .exit)) ⌝ }
+{
     match requests::request_of(text) {
         Asked::Broken(fault, at) => Reached::Problem(Problem::Wrong(fault, at)),
         Asked::Whole(request) => {
@@ -150,11 +197,13 @@ pub fn ask(text: &[u8], reference_out: &mut [u8], alternative_out: &mut [u8]) ->
             let Interval::Between(start, end) = range else {
                 return Reached::Problem(Problem::NoRange);
             };
-            with_request(
+            ask_on_range(
                 text,
                 request,
-                signed(start),
-                signed(end),
+                start,
+                end,
+                file,
+                bytes,
                 reference_out,
                 alternative_out,
             )

@@ -7,6 +7,7 @@ ghost use Prim.Native.Nat.{_+_, min, max};
 ghost use Rattle.terminal.specs.Page.{Added};
 ghost use Rattle.bench.specs.Runs.{Ran};
 use asking::Reached;
+use targets::File;
 
 // How many bytes of the page are used, how many rows agree, and how many there are, each count up to 65,536.
 pub struct Run {
@@ -23,7 +24,7 @@ fn put_reached(
     reference: &mut [u8],
     alternative: &mut [u8],
 ) -> usize {
-    match asking::ask(words, reference, alternative) {
+    match asking::ask(words, File::Unreadable, b"", reference, alternative) {
         Reached::Outcome(outcome) => answers::put_outcome(
             answer,
             answer_size,
@@ -32,7 +33,7 @@ fn put_reached(
             reference,
             alternative,
         ),
-        Reached::Problem(problem) => asking::put_problem(answer, answer_size, words, problem),
+        Reached::Problem(problem) => problems::put_problem(answer, answer_size, words, problem),
     }
 }
 

@@ -2,10 +2,11 @@
 mod table;
 mod usage;
 
-use asking::Problem;
 use asking::Reached;
 use definition::Answered;
 use definition::Outcome;
+use problems::Problem;
+use targets::File;
 
 // What gathering the arguments came to: words, each ended by a byte 0.
 enum Gathered {
@@ -43,6 +44,30 @@ fn gather(text: &mut [u8]) -> Gathered {
         i += 1;
     }
     Gathered::Words(size)
+}
+
+// What is left of a file after its first bytes: a byte more where it is too long, a number below 0 where it can't be read.
+fn rest_of(file: i32) -> isize {
+    let mut byte = [0u8; 1];
+    libc::read(file, &mut byte)
+}
+
+// The bytes of the file at a path, at the front of those that are lent. No path is that of no file.
+fn read_file(path: &[u8], bytes: &mut [u8]) -> File {
+    let file = os::open_read(path);
+    if file < 0 {
+        return File::Unreadable;
+    }
+    let size = io::read_full(file, bytes);
+    let rest = rest_of(file);
+    libc::close(file);
+    if rest < 0 {
+        return File::Unreadable;
+    }
+    if 0 < rest {
+        return File::TooLong;
+    }
+    File::Read(size)
 }
 
 fn put_class_line(page: &mut [u8], used: usize, answer: Answered) -> usize {
@@ -112,27 +137,30 @@ fn put_problem(page: &mut [u8], used: usize, text: &[u8], problem: Problem) -> u
             return usage::put_usage(page, used);
         }
     }
-    asking::put_problem(page, used, text, problem)
+    problems::put_problem(page, used, text, problem)
 }
 
-// What the words of a text reach.
-fn put_reached(page: &mut [u8], used: usize, text: &[u8]) -> usize {
+// What the words of a text reach, where the file that they name is read so.
+fn put_reached(page: &mut [u8], used: usize, text: &[u8], file: File, bytes: &[u8]) -> usize {
     let mut reference_space = [0u8; 1025];
     let mut alternative_space = [0u8; 1025];
     let reference: &mut [u8] = &mut reference_space;
     let alternative: &mut [u8] = &mut alternative_space;
-    match asking::ask(text, reference, alternative) {
+    match asking::ask(text, file, bytes, reference, alternative) {
         Reached::Outcome(outcome) => put_outcome(page, used, outcome, reference, alternative),
         Reached::Problem(problem) => put_problem(page, used, text, problem),
     }
 }
 
-// What is said to words: the table where there is none.
+// What is said to words: the table where there is none. A file that they name may have 262,144 bytes.
 fn put_reply(page: &mut [u8], text: &[u8]) -> usize {
     if text.len() == 0 {
         return table::put_table(page, 0);
     }
-    let reached = put_reached(page, 0, text);
+    let mut space = [0u8; 262144];
+    let bytes: &mut [u8] = &mut space;
+    let file = read_file(asking::path_of(text), bytes);
+    let reached = put_reached(page, 0, text, file, bytes);
     terminal::put_byte(page, reached, b'\n')
 }
 

@@ -1,6 +1,7 @@
 // The requests of 01's bench on target CAAATGGTACCA, written as arguments, each with its answer in columns.
 ghost use Rattle.terminal.specs.Page.{Added};
 use asking::Reached;
+use targets::File;
 
 // The columns' widths: that of the arguments, and that of each part of an answer.
 const ASKED: usize = 72;
@@ -15,7 +16,7 @@ fn put_reached(page: &mut [u8], used: usize, words: &[u8]) -> usize
     let mut alternative_space = [0u8; 1025];
     let reference: &mut [u8] = &mut reference_space;
     let alternative: &mut [u8] = &mut alternative_space;
-    match asking::ask(words, reference, alternative) {
+    match asking::ask(words, File::Unreadable, b"", reference, alternative) {
         Reached::Outcome(outcome) => answers::put_outcome(
             page,
             used,
@@ -24,7 +25,7 @@ fn put_reached(page: &mut [u8], used: usize, words: &[u8]) -> usize
             reference,
             alternative,
         ),
-        Reached::Problem(problem) => asking::put_problem(page, used, words, problem),
+        Reached::Problem(problem) => problems::put_problem(page, used, words, problem),
     }
 }
 

@@ -1,0 +1,87 @@
+-- What words come to, by each thing that they need; and what comes back of it: a problem leaves both buffers, a verdict is met. Assumes nothing.
+use Prim.Native.Nat.{ℕ}
+use native.Mathlib.Omega.{arith}
+use mathlib.Core.Path.{_≡_, refl, sym, ap, _∙_}
+use mathlib.Core.List.{List, []}
+use borrow.Author.Tests.{eq-eqb, ne-eqb, le-ltb}
+use lib.ListN.{length}
+use Rattle.definition.specs.Request as definition
+use Rattle.definition.specs.declared.Outcome as definition-outcome
+use Rattle.definition.specs.Verdict.{verdict}
+use Rattle.definition.specs.Reply.{Met, written}
+use Rattle.terminal.specs.Text.{partOf}
+use Rattle.inputs.specs.declared.Exons.{Exons}
+use Rattle.inputs.specs.declared.Exons.the-variants.{Table, BadPair, TooMany}
+use Rattle.requests.specs.declared.Asked.{Asked}
+use Rattle.requests.specs.declared.Asked.the-variants.{Whole, Broken}
+use Rattle.requests.specs.declared.Fault.{Fault}
+use Rattle.requests.specs.declared.Interval.the-variants.{Nowhere, Between}
+use Rattle.requests.specs.declared.Request.{Request}
+use Rattle.requests.specs.Request.{noEdit}
+use Rattle.requests.specs.Options.{requestOf}
+use Rattle.problems.specs.declared.Problem as problems
+use Rattle.problems.specs.declared.Problem.the-variants.{Wrong, Unread as UnreadTarget, NoEdit, NoRange, BadExons, TooManyExons}
+use Rattle.problems.specs.declared.Unread.{Unread}
+use Rattle.targets.specs.declared.File.{File}
+use Rattle.targets.specs.declared.Target.{Target}
+use Rattle.targets.specs.declared.Target.the-variants as target
+use Rattle.targets.specs.Sources.{sourceOf, targetOf, lettersIn}
+use Rattle.asking.specs.declared.Reached.the-variants.{Outcome, Problem}
+use Rattle.asking.specs.Handed.{exonsAt, handedTo}
+use Rattle.asking.specs.Reached.{Came, handed, stopped, onTarget, onRange, onWords, Answers}
+
+module _ {came : Came} {reference alternative : List ℕ} where
+  pub stops : {problem : problems.Problem} → came ≡ stopped problem → Answers came (Problem problem) reference reference alternative alternative
+  unfolding written
+  stops e = rw e (record { reached = refl; referenceBuffer = refl; alternativeBuffer = refl })
+
+  pub answers : {request : definition.Request} {outcome : definition-outcome.Outcome} {reference′ alternative′ : List ℕ} → came ≡ handed request
+      → Met (verdict request) outcome reference reference′ alternative alternative′ → Answers came (Outcome outcome) reference reference′ alternative alternative′
+  answers e m = rw e (record { reached = ap Outcome (m .numbers); referenceBuffer = m .referenceBuffer; alternativeBuffer = m .alternativeBuffer })
+
+-- what a request comes to on its target, by what its exons come to
+module _ (text : List ℕ) (request : Request) (start end : ℕ) (letters : List ℕ) (referenceRoom alternativeRoom : ℕ) {exons : Exons}
+    (are : exons ≡ exonsAt text (request .words .exons) .came) where
+  pub bad-exons : exons ≡ BadPair → onTarget text request start end letters referenceRoom alternativeRoom ≡ stopped BadExons
+  bad-exons e = rw (sym are ∙ e)
+
+  pub too-many : exons ≡ TooMany → onTarget text request start end letters referenceRoom alternativeRoom ≡ stopped TooManyExons
+  too-many e = rw (sym are ∙ e)
+
+  pub with-table : {size : ℕ} → exons ≡ Table size
+      → onTarget text request start end letters referenceRoom alternativeRoom
+      ≡ handed (handedTo text request start end letters (exonsAt text (request .words .exons) .bytes) referenceRoom alternativeRoom)
+  with-table e = rw (sym are ∙ e)
+
+-- and on its range, by what its target comes to
+module _ (text : List ℕ) (request : Request) (start end : ℕ) (file : File) (bytes : List ℕ) (referenceRoom alternativeRoom : ℕ) {room : ℕ} (long : room ≡ 65536)
+    {read : Target} (is : read ≡ targetOf room (sourceOf text (request .words .target) (request .words .file) file bytes)) where
+  pub unread : {why : Unread} → read ≡ target.Unread why
+      → onRange text request start end file bytes referenceRoom alternativeRoom ≡ stopped (UnreadTarget why)
+  unread e = rw (sym (rw long at is) ∙ e)
+
+  pub with-letters : {size : ℕ} → read ≡ target.Letters size
+      → onRange text request start end file bytes referenceRoom alternativeRoom
+      ≡ onTarget text request start end (lettersIn (sourceOf text (request .words .target) (request .words .file) file bytes)) referenceRoom alternativeRoom
+  with-letters e = rw (sym (rw long at is) ∙ e)
+
+-- and words, by the request that they make
+module _ (text : List ℕ) (file : File) (bytes : List ℕ) (referenceRoom alternativeRoom : ℕ) {asked : Asked} (is : asked ≡ requestOf text) where
+  pub broken : {fault : Fault} {at : ℕ} → asked ≡ Broken fault at → onWords text file bytes referenceRoom alternativeRoom ≡ stopped (Wrong fault at)
+  broken e = rw (sym is ∙ e)
+
+  module _ {request : Request} (whole : asked ≡ Whole request) where
+    pub no-edit : request .codes .edit ≡ noEdit → onWords text file bytes referenceRoom alternativeRoom ≡ stopped NoEdit
+    no-edit e = rw (sym is ∙ whole, eq-eqb (request .codes .edit) noEdit e)
+
+    module _ (edits : request .codes .edit ≡ noEdit → ⊥) where
+      pub no-range : request .range ≡ Nowhere → onWords text file bytes referenceRoom alternativeRoom ≡ stopped NoRange
+      no-range e = rw (sym is ∙ whole, ne-eqb (request .codes .edit) noEdit edits, e)
+
+      pub with-range : {start end : ℕ} → request .range ≡ Between start end
+          → onWords text file bytes referenceRoom alternativeRoom ≡ onRange text request start end file bytes referenceRoom alternativeRoom
+      with-range e = rw (sym is ∙ whole, ne-eqb (request .codes .edit) noEdit edits, e)
+
+-- words that make no request name no file
+pub no-path : (text : List ℕ) → partOf text 0 0 ≡ []
+no-path text = rw (le-ltb (length text) 0 (omega arith))

@@ -1,0 +1,69 @@
+-- `asking::ask_on_range` meets its contract: by what the target comes to; its letters stand at the front of the buffer. Assumes nothing.
+use Prim.Native.Nat.{ℕ}
+use lib.ListN.{replicate, length-replicate}
+use Rattle.targets.specs.Sources.{sourceOf}
+use Rattle.targets.proofs.Fronts.{front}
+use Rattle.asking.proofs.Came.{stops, unread, with-letters}
+use borrow.Author.Needs.{needs}
+use Rattle.asking.proofs.ask_on_range.Statement.{statement}
+use Rattle.asking.proofs.ask_on_range.Tie as tie
+
+slice-aggregate-target : tie.Need-slice-aggregate-target
+slice-aggregate-target c = search needs
+
+read-requires : tie.Need-read-requires
+read-requires c κs = search needs
+
+enum-known-size : tie.Need-enum-known-size
+enum-known-size c = search needs
+
+part-requires : tie.Need-part-requires
+part-requires c κs = search needs
+
+ask-on-target-requires : tie.Need-ask-on-target-requires
+ask-on-target-requires c κs = search needs
+
+enum-known-unread : tie.Need-enum-known-unread
+enum-known-unread c = search needs
+
+same-length : tie.Need-same-length
+same-length c = search needs
+
+same-length-2 : tie.Need-same-length-2
+same-length-2 c = search needs
+
+returns : tie.Need-returns
+returns c =
+    let s = c .before .before .before .before .before .before .before .before .before .before .before .before .before .before .before .before .before .before .before .before .before .before in
+    let at = s .args in
+    let read = c .before .before .before .before .before .before .before .before .before .before .before .before .before .before .before .read .ensures in
+    let size = c .before .before .before .before .before .before .before .before .before .before .before .size .given in
+    let source = sourceOf (at .text .now) (at .request .words .target) (at .request .words .file) (at .file) (at .bytes .now) in
+    rw (with-letters (at .text .now) (at .request) (at .start) (at .end) (at .file) (at .bytes .now) _ _ (length-replicate {A = ℕ} 65536 0) (read .0) (size .1))
+    (rw (
+      c .before .before .before .before .before .before .before .before .part .ensures,
+      read .1,
+      front source (replicate 65536 0) (read .0) (size .1),
+    )
+    at (c .before .before .before .before .before .ask-on-target .ensures))
+
+returns-2 : tie.Need-returns-2
+returns-2 c =
+    let s = c .before .before .before .before .before .before .before .before .before .before .before .before .before in
+    let at = s .args in
+    stops (unread (at .text .now) (at .request) (at .start) (at .end) (at .file) (at .bytes .now) _ _ (length-replicate {A = ℕ} 65536 0) (c .before .before .before .before .before .before .read .ensures .0) (c .before .before .unread .given .1))
+
+pub ask-on-range-spec : {M : Type 1} → statement M
+ask-on-range-spec =
+    tie.close
+    (tie.spec
+    slice-aggregate-target
+    read-requires
+    enum-known-size
+    part-requires
+    ask-on-target-requires
+    enum-known-unread
+    same-length
+    same-length-2
+    returns
+    returns-2)

@@ -1,0 +1,40 @@
+-- `asking::path_of` meets its contract: by the request that the words make. Assumes nothing.
+use mathlib.Core.Path.{sym, ap, _∙_}
+use Rattle.asking.specs.Reached.{pathIn}
+use Rattle.asking.proofs.Came.{no-path}
+use borrow.Author.Needs.{needs}
+use Rattle.asking.proofs.path_of.Statement.{statement}
+use Rattle.asking.proofs.path_of.Tie as tie
+
+request-of-requires : tie.Need-request-of-requires
+request-of-requires c κs = search needs
+
+enum-known-request : tie.Need-enum-known-request
+enum-known-request c = search needs
+
+word-requires : tie.Need-word-requires
+word-requires c κs = search needs
+
+enum-told : tie.Need-enum-told
+enum-told c = search needs
+
+part-requires : tie.Need-part-requires
+part-requires c κs = search needs
+
+returns : tie.Need-returns
+returns c = c .word .ensures ∙ ap (pathIn (c .before .before .before .before .before .before .args .text .now)) (sym (c .before .before .request .given .1) ∙ c .before .before .before .before .request-of .ensures)
+
+returns-2 : tie.Need-returns-2
+returns-2 c = c .part .ensures ∙ no-path (c .before .before .before .before .before .args .text .now) ∙ ap (pathIn (c .before .before .before .before .before .args .text .now)) (sym (c .before .enum-told .given .1) ∙ c .before .before .before .request-of .ensures)
+
+pub path-of-spec : {M : Type 1} → statement M
+path-of-spec =
+    tie.close
+    (tie.spec
+    request-of-requires
+    enum-known-request
+    word-requires
+    enum-told
+    part-requires
+    returns
+    returns-2)

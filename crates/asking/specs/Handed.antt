@@ -1,0 +1,34 @@
+-- The request that the normalizer is handed for what words ask, once the target is read. Assumes nothing.
+use Prim.Native.Nat.{ℕ}
+use mathlib.Core.Bool.{cond}
+use mathlib.Core.List.{List, []}
+use lib.Dec.{eqb, ltb}
+use lib.IntN.{ℤ, pos, negsuc}
+use Rattle.definition.specs.Request as definition
+use Rattle.normalizer.specs.Asked.{asked}
+use Rattle.terminal.specs.Text.{wordAt}
+use Rattle.inputs.specs.declared.Exons.the-variants.{Table}
+use Rattle.inputs.specs.Exons.{Pairs, pairsOf}
+use Rattle.requests.specs.declared.Bound.{Bound}
+use Rattle.requests.specs.declared.Bound.the-variants.{Unbound, At}
+use Rattle.requests.specs.declared.Request.{Request}
+use Rattle.requests.specs.Request.{noWord}
+
+-- a number of the range; one too large for 31 bits, which no word gives, would be refused by row 5
+abbrev pub positionOf : ℕ → ℤ
+positionOf number = cond (ltb 2147483647 number) (negsuc 0) (pos number)
+
+-- a bound of the CDS: -1 where none is given
+abbrev pub boundNumber : Bound → ℤ
+boundNumber Unbound = negsuc 0
+boundNumber (At number) = pos number
+
+-- the exons of a word: an empty table where none is given
+abbrev pub exonsAt : List ℕ → ℕ → Pairs
+exonsAt text word = cond (eqb word noWord) (record { came = Table 0; bytes = [] }) (pairsOf (wordAt text word))
+
+unfoldable pub handedTo : List ℕ → Request → ℕ → ℕ → List ℕ → List ℕ → ℕ → ℕ → definition.Request
+handedTo text request start end target exons referenceRoom alternativeRoom =
+    let codes = request .codes in
+    asked target (codes .kind) exons (boundNumber (request .bounds .start)) (boundNumber (request .bounds .end)) (positionOf start) (positionOf end)
+    (codes .edit) (wordAt text (request .words .alternative)) (codes .direction) (codes .window) referenceRoom alternativeRoom

@@ -1,0 +1,4 @@
+-- What the proofs share. Assumes nothing.
+pub mod Given
+pub mod Fronts
+pub mod Unique
