@@ -4,8 +4,8 @@ ghost use mathlib.Core.Path.{_≡_};
 ghost use Prim.Native.Nat.{_<_};
 ghost use Rattle.alleles.specs.Held.{Good};
 use alleles::Allele;
+use decimals::Number;
 use libc::STDOUT_FILENO;
-use terminal::Number;
 
 const WINDOW: [u8; 20] = *b"AAAAAAAAAAAAAAAAAAAA";
 
@@ -83,8 +83,8 @@ fn go_as_asked() {
     let mut count = [0u8; 16];
     let form_size = os::arg(1, &mut form);
     let count_size = os::arg(2, &mut count);
-    match terminal::decimal(terminal::part(&count, 0, count_size)) {
-        Number::Is(rounds) => go(terminal::part(&form, 0, form_size), rounds),
+    match decimals::decimal(text::part(&count, 0, count_size)) {
+        Number::Is(rounds) => go(text::part(&form, 0, form_size), rounds),
         Number::Bad => say(
             b"The second argument is no number. Give the rounds, as in: allele_rounds lent 10000000\n",
         ),

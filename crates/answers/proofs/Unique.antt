@@ -1,22 +1,10 @@
--- What a contract fixes of a page: any two results that it allows for the same arguments are equal, the count and every byte. The theorems are
--- about the contracts as the source states them. Assumes nothing.
+-- What a contract fixes of a page: any two results that it allows for the same arguments are equal, the count and every byte. The theorem is
+-- about the contract as the source states it. Assumes nothing.
 use denote.Ref.{now}
 use Rattle.definition.proofs.Fixes.{Fixes}
 use Rattle.terminal.specs.Page.{page}
 use Rattle.terminal.proofs.Unique.{one-page}
-use Rattle.answers.proofs.put_class.Reads as put-class
-use Rattle.answers.proofs.put_range.Reads as put-range
-use Rattle.answers.proofs.put_allele.Reads as put-allele
 use Rattle.answers.proofs.put_outcome.Reads as put-outcome
-
-pub put-class-one-page : Fixes (λ κs x at. page (now (at .0)) x) put-class.Post
-put-class-one-page κs a x y atX atY p q = one-page p q
-
-pub put-range-one-page : Fixes (λ κs x at. page (now (at .0)) x) put-range.Post
-put-range-one-page κs a x y atX atY p q = one-page p q
-
-pub put-allele-one-page : Fixes (λ κs x at. page (now (at .0)) x) put-allele.Post
-put-allele-one-page κs a x y atX atY p q = one-page p q
 
 pub put-outcome-one-page : Fixes (λ κs x at. page (now (at .0)) x) put-outcome.Post
 put-outcome-one-page κs a x y atX atY p q = one-page p q

@@ -1,53 +1,22 @@
 // What came back of a request, in words: an answer or a refusal on one line, in columns or with single spaces.
 ghost use Rattle.terminal.specs.Page.{Put, column};
-ghost use Rattle.answers.specs.Answers.{className, rangeText, alleleText, answerText, outcomeText};
+ghost use Rattle.values.specs.Values.{className, rangeText, alleleText};
+ghost use Rattle.answers.specs.Answers.{answerText, outcomeText};
 use definition::Answered;
 use definition::Class;
 use definition::Outcome;
 
-pub fn put_class(page: &mut [u8], used: usize, class: Class) -> usize
-    ensures { λ r. ⌜ Put (now (page .entry)) used (className class) (now (page .exit)) r ⌝ }
-{
-    match class {
-        Class::Insertion => terminal::put(page, used, b"insertion"),
-        Class::Duplication => terminal::put(page, used, b"duplication"),
-        Class::Deletion => terminal::put(page, used, b"deletion"),
-        Class::Replacement => terminal::put(page, used, b"replacement"),
-        Class::Inversion => terminal::put(page, used, b"inversion"),
-        Class::Unchanged => terminal::put(page, used, b"unchanged"),
-    }
-}
-
-// A range with both ends in it.
-pub fn put_range(page: &mut [u8], used: usize, start: usize, end: usize) -> usize
-    ensures { λ r. ⌜ Put (now (page .entry)) used (rangeText start end) (now (page .exit)) r ⌝ }
-{
-    let started = terminal::put_number(page, used, start);
-    let parted = terminal::put_byte(page, started, b',');
-    terminal::put_number(page, parted, end)
-}
-
-// An allele, which is the front of its buffer: a dash where it is empty.
-pub fn put_allele(page: &mut [u8], used: usize, buffer: &[u8], size: usize) -> usize
-    ensures { λ r. ⌜ Put (now (page .entry)) used (alleleText (now (buffer .entry)) size) (now (page .exit)) r ⌝ }
-{
-    if size == 0 {
-        return terminal::put_byte(page, used, b'-');
-    }
-    terminal::put(page, used, terminal::part(buffer, 0, size))
-}
-
 fn put_class_column(page: &mut [u8], used: usize, width: usize, class: Class) -> usize
     ensures { λ r. ⌜ Put (now (page .entry)) used (column width (className class)) (now (page .exit)) r ⌝ }
 {
-    let named = put_class(page, used, class);
+    let named = values::put_class(page, used, class);
     terminal::put_gap(page, named, used, width)
 }
 
 fn put_range_column(page: &mut [u8], used: usize, width: usize, start: usize, end: usize) -> usize
     ensures { λ r. ⌜ Put (now (page .entry)) used (column width (rangeText start end)) (now (page .exit)) r ⌝ }
 {
-    let ranged = put_range(page, used, start, end);
+    let ranged = values::put_range(page, used, start, end);
     terminal::put_gap(page, ranged, used, width)
 }
 
@@ -60,7 +29,7 @@ fn put_allele_column(
 ) -> usize
     ensures { λ r. ⌜ Put (now (page .entry)) used (column width (alleleText (now (buffer .entry)) size)) (now (page .exit)) r ⌝ }
 {
-    let spelled = put_allele(page, used, buffer, size);
+    let spelled = values::put_allele(page, used, buffer, size);
     terminal::put_gap(page, spelled, used, width)
 }
 

@@ -9,7 +9,7 @@ use Rattle.definition.specs.Request as definition
 use Rattle.definition.specs.declared.Outcome as definition-outcome
 use Rattle.definition.specs.Verdict.{verdict}
 use Rattle.definition.specs.Reply.{Met, written}
-use Rattle.terminal.specs.Text.{partOf}
+use Rattle.text.specs.Text.{partOf}
 use Rattle.inputs.specs.declared.Exons.{Exons}
 use Rattle.inputs.specs.declared.Exons.the-variants.{Table, BadPair, TooMany}
 use Rattle.requests.specs.declared.Asked.{Asked}
@@ -25,10 +25,12 @@ use Rattle.problems.specs.declared.Unread.{Unread}
 use Rattle.targets.specs.declared.File.{File}
 use Rattle.targets.specs.declared.Target.{Target}
 use Rattle.targets.specs.declared.Target.the-variants as target
-use Rattle.targets.specs.Sources.{sourceOf, targetOf, lettersIn}
+use Rattle.targets.specs.Sources.{sourceOf, targetOf, laid, lettersIn}
+use Rattle.targets.proofs.Fronts.{front}
+use Rattle.asking.specs.declared.Reached.{Reached}
 use Rattle.asking.specs.declared.Reached.the-variants.{Outcome, Problem}
-use Rattle.asking.specs.Handed.{exonsAt, handedTo}
-use Rattle.asking.specs.Reached.{Came, handed, stopped, onTarget, onRange, onWords, Answers}
+use Rattle.handing.specs.Handed.{handedTo}
+use Rattle.asking.specs.Reached.{exonsAt, Came, handed, stopped, onTarget, onRange, onWords, Answers}
 
 module _ {came : Came} {reference alternative : List ℕ} where
   pub stops : {problem : problems.Problem} → came ≡ stopped problem → Answers came (Problem problem) reference reference alternative alternative
@@ -60,10 +62,18 @@ module _ (text : List ℕ) (request : Request) (start end : ℕ) (file : File) (
       → onRange text request start end file bytes referenceRoom alternativeRoom ≡ stopped (UnreadTarget why)
   unread e = rw (sym (rw long at is) ∙ e)
 
-  pub with-letters : {size : ℕ} → read ≡ target.Letters size
-      → onRange text request start end file bytes referenceRoom alternativeRoom
-      ≡ onTarget text request start end (lettersIn (sourceOf text (request .words .target) (request .words .file) file bytes)) referenceRoom alternativeRoom
-  with-letters e = rw (sym (rw long at is) ∙ e)
+  -- its letters stand at the front of the buffer, and the request goes on with them
+  pub with-letters : (buffer : List ℕ) {buffer′ part : List ℕ} {size : ℕ} {r : Reached} {reference reference′ alternative alternative′ : List ℕ} → room ≡ length buffer
+      → read ≡ target.Letters size → buffer′ ≡ laid (sourceOf text (request .words .target) (request .words .file) file bytes) buffer
+      → part ≡ partOf buffer′ 0 size
+      → Answers (onTarget text request start end part referenceRoom alternativeRoom) r reference reference′ alternative alternative′
+      → Answers (onRange text request start end file bytes referenceRoom alternativeRoom) r reference reference′ alternative alternative′
+  with-letters buffer {buffer′} {part} {size} fits e is-laid is-part answered =
+      let source = sourceOf text (request .words .target) (request .words .file) file bytes in
+      let letters : part ≡ lettersIn source =
+      is-part ∙ ap (λ (held : List ℕ). partOf held 0 size) is-laid ∙ front source buffer (rw fits at is) e
+      in
+      rw (sym (rw long at is) ∙ e) (rw letters at answered)
 
 -- and words, by the request that they make
 module _ (text : List ℕ) (file : File) (bytes : List ℕ) (referenceRoom alternativeRoom : ℕ) {asked : Asked} (is : asked ≡ requestOf text) where

@@ -9,17 +9,17 @@ use mathlib.Core.Option.{Option, none, some}
 use borrow.Author.Tests.{le-ltb, eq-eqb, ne-eqb, eqb-true, eqb-false, leb-false}
 use lib.Dec.{eqb, leb}
 use lib.ListN.{length, take, length-append}
-use Rattle.terminal.specs.Text.{partOf, foundAt, wordAt}
-use Rattle.terminal.specs.Decimal.{decimalOf}
-use Rattle.terminal.specs.declared.Number.{Number}
-use Rattle.terminal.specs.declared.Number.the-variants.{Is, Bad}
-use Rattle.terminal.specs.Laid.{laidAt}
-use Rattle.terminal.proofs.Laid.{length-laid}
+use Rattle.text.specs.Text.{partOf, foundAt, wordAt}
+use Rattle.decimals.specs.Decimal.{decimalOf}
+use Rattle.decimals.specs.declared.Number.{Number}
+use Rattle.decimals.specs.declared.Number.the-variants.{Is, Bad}
+use Rattle.text.specs.Laid.{laidAt}
+use Rattle.text.proofs.Laid.{length-laid}
 use Rattle.inputs.specs.declared.Exons.{Exons}
 use Rattle.inputs.specs.declared.Exons.the-variants.{Table, BadPair, TooMany}
 use Rattle.inputs.specs.Exons.{Pairs, fourBytes, bothNumbers, pairBytes, pairCame, pairPut, goingOn, pairsBehind, pairsOf, partsAt}
 use Rattle.requests.specs.Request.{noWord}
-use Rattle.asking.specs.Handed.{exonsAt}
+use Rattle.asking.specs.Reached.{exonsAt}
 
 -- a pair is eight bytes
 eight-long : (first second : Number) (eight : List ℕ) → bothNumbers first second ≡ some eight → length eight ≡ 8

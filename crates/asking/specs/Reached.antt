@@ -7,7 +7,7 @@ use lib.Dec.{eqb}
 use Rattle.definition.specs.Request as definition
 use Rattle.definition.specs.Verdict.{verdict}
 use Rattle.definition.specs.Reply.{outcomeOf, referenceOut, alternativeOut, written}
-use Rattle.terminal.specs.Text.{wordAt}
+use Rattle.text.specs.Text.{wordAt}
 use Rattle.inputs.specs.declared.Exons as inputs
 use Rattle.inputs.specs.declared.Exons.the-variants.{Table, BadPair, TooMany}
 use Rattle.requests.specs.declared.Asked.{Asked}
@@ -15,7 +15,8 @@ use Rattle.requests.specs.declared.Asked.the-variants.{Whole, Broken}
 use Rattle.requests.specs.declared.Interval.{Interval}
 use Rattle.requests.specs.declared.Interval.the-variants.{Nowhere, Between}
 use Rattle.requests.specs.declared.Request.{Request}
-use Rattle.requests.specs.Request.{noEdit}
+use Rattle.inputs.specs.Exons.{Pairs, pairsOf}
+use Rattle.requests.specs.Request.{noWord, noEdit}
 use Rattle.requests.specs.Options.{requestOf}
 use Rattle.problems.specs.declared.Problem as problems
 use Rattle.problems.specs.declared.Problem.the-variants.{Wrong, Unread, NoEdit, NoRange, BadExons, TooManyExons}
@@ -25,12 +26,16 @@ use Rattle.targets.specs.declared.Target.the-variants as target
 use Rattle.targets.specs.Sources.{sourceOf, targetOf, lettersIn}
 use Rattle.asking.specs.declared.Reached.{Reached}
 use Rattle.asking.specs.declared.Reached.the-variants.{Outcome, Problem}
-use Rattle.asking.specs.Handed.{exonsAt, handedTo}
+use Rattle.handing.specs.Handed.{handedTo}
 
 -- what words come to: a request that is handed to the normalizer, or a problem
 pub data Came : Type 0 where
   handed : definition.Request → Came
   stopped : problems.Problem → Came
+
+-- the exons of a word: an empty table where none is given
+abbrev pub exonsAt : List ℕ → ℕ → Pairs
+exonsAt text word = cond (eqb word noWord) (record { came = Table 0; bytes = [] }) (pairsOf (wordAt text word))
 
 -- a request goes on with its exons, if they are pairs
 abbrev pub withExons : inputs.Exons → definition.Request → Came

@@ -2,16 +2,12 @@
 // name is read by the caller, who asks for its path and lends its bytes.
 ghost use mathlib.Core.Path.{_≡_};
 ghost use lib.ListN.{length};
-ghost use Rattle.definition.specs.Verdict.{verdict};
-ghost use Rattle.definition.specs.Reply.{Met};
-ghost use Rattle.terminal.specs.Laid.{laidAt};
-ghost use Rattle.asking.specs.Handed.{positionOf, boundNumber, exonsAt, handedTo};
-ghost use Rattle.asking.specs.Reached.{Answers, pathOf, onTarget, onRange, onWords};
+ghost use Rattle.text.specs.Laid.{laidAt};
+ghost use Rattle.asking.specs.Reached.{Answers, exonsAt, pathOf, onTarget, onRange, onWords};
 use definition::Outcome;
 use inputs::Exons;
 use problems::Problem;
 use requests::Asked;
-use requests::Bound;
 use requests::Interval;
 use requests::Request;
 use targets::File;
@@ -23,26 +19,6 @@ pub enum Reached {
     Problem(Problem),
 }
 
-// A number of the range as the normalizer takes it. One that is too large for it was refused as it was read.
-fn position_of(number: u32) -> i32
-    ensures { λ r. ⌜ r ≡ positionOf number ⌝ }
-{
-    if 2147483647 < number {
-        return -1;
-    }
-    number as i32
-}
-
-// A bound of the CDS as the normalizer takes it.
-fn bound_number(bound: Bound) -> i64
-    ensures { λ r. ⌜ r ≡ boundNumber bound ⌝ }
-{
-    match bound {
-        Bound::Unbound => -1,
-        Bound::At(number) => number as i64,
-    }
-}
-
 // The exon table that a word gives: empty where no word does.
 fn exons_at(text: &[u8], word: usize, table: &mut [u8]) -> Exons
     ensures { λ r. ⌜ r ≡ exonsAt (now (text .entry)) word .came ⌝ }
@@ -51,45 +27,7 @@ fn exons_at(text: &[u8], word: usize, table: &mut [u8]) -> Exons
     if word == requests::NO_WORD {
         return Exons::Table(0);
     }
-    inputs::read_exons(terminal::word(text, word), table)
-}
-
-// A request is handed on, with its target and its exon table.
-fn hand(
-    text: &[u8],
-    request: Request,
-    start: u32,
-    end: u32,
-    target: &[u8],
-    exons: &[u8],
-    reference_out: &mut [u8],
-    alternative_out: &mut [u8],
-) -> Outcome
-    ensures { λ r. ⌜ Met
-        (verdict (handedTo (now (text .entry)) request start end (now (target .entry)) (now (exons .entry))
-        (length (now («reference_out» .entry))) (length (now («alternative_out» .entry)))))
-        r (now («reference_out» .entry)) (now («reference_out» .exit)) (now («alternative_out» .entry)) (now («alternative_out» .exit)) ⌝ }
-{
-    let words = request.words;
-    let codes = request.codes;
-    let bounds = request.bounds;
-    let cds_start = bounds.start;
-    let cds_end = bounds.end;
-    normalizer::normalize(
-        target,
-        codes.kind,
-        exons,
-        bound_number(cds_start),
-        bound_number(cds_end),
-        position_of(start),
-        position_of(end),
-        codes.edit,
-        terminal::word(text, words.alternative),
-        codes.direction,
-        codes.window,
-        reference_out,
-        alternative_out,
-    )
+    inputs::read_exons(text::word(text, word), table)
 }
 
 // A request from a start to an end, whose target is read.
@@ -112,13 +50,13 @@ fn ask_on_target(
     match exons_at(text, request.words.exons, table) {
         Exons::BadPair => Reached::Problem(Problem::BadExons),
         Exons::TooMany => Reached::Problem(Problem::TooManyExons),
-        Exons::Table(size) => Reached::Outcome(hand(
+        Exons::Table(size) => Reached::Outcome(handing::hand(
             text,
             request,
             start,
             end,
             target,
-            terminal::part(table, 0, size),
+            text::part(table, 0, size),
             reference_out,
             alternative_out,
         )),
@@ -156,7 +94,7 @@ fn ask_on_range(
             request,
             start,
             end,
-            terminal::part(target, 0, size),
+            text::part(target, 0, size),
             reference_out,
             alternative_out,
         ),
@@ -169,8 +107,8 @@ pub fn path_of(text: &[u8]) -> &[u8]
     ensures { λ r. ⌜ now r ≡ pathOf (now (text .entry)) ⌝ }
 {
     match requests::request_of(text) {
-        Asked::Whole(request) => terminal::word(text, request.words.file),
-        Asked::Broken(_, _) => terminal::part(text, 0, 0),
+        Asked::Whole(request) => text::word(text, request.words.file),
+        Asked::Broken(_, _) => text::part(text, 0, 0),
     }
 }
 

@@ -80,7 +80,7 @@ fn put_answer(
     put_reached_in(
         answer,
         answer_size,
-        terminal::part(words, 0, size),
+        text::part(words, 0, size),
         reference_room,
         alternative_room,
     )
@@ -91,7 +91,7 @@ fn agrees(answer: &[u8], expected: &[u8]) -> bool {
     let mut space = [0u8; 4096];
     let text: &mut [u8] = &mut space;
     let size = lines::expand(expected, b' ', text, 0);
-    check::same(answer, terminal::part(text, 0, size))
+    check::same(answer, text::part(text, 0, size))
 }
 
 // A row as the table has it: what was asked, what is expected, what it shows.
@@ -147,7 +147,7 @@ fn run_row(
     let mut space = [0u8; 4096];
     let answer: &mut [u8] = &mut space;
     let size = put_answer(answer, 0, asked, reference_room, alternative_room);
-    if agrees(terminal::part(answer, 0, size), expected) {
+    if agrees(text::part(answer, 0, size), expected) {
         return Run {
             used: shown,
             agreeing: raised(so_far.agreeing),
@@ -155,7 +155,7 @@ fn run_row(
         };
     }
     Run {
-        used: put_difference(page, shown, terminal::part(answer, 0, size)),
+        used: put_difference(page, shown, text::part(answer, 0, size)),
         agreeing: so_far.agreeing,
         all: raised(so_far.all),
     }
@@ -174,8 +174,8 @@ pub fn run_rows(
     let mut run = so_far;
     let mut from = 0;
     while from < rows.len() {
-        let end = terminal::find(rows, from, b'\n');
-        let row = terminal::part(rows, from, end);
+        let end = text::find(rows, from, b'\n');
+        let row = text::part(rows, from, end);
         run = run_row(page, run, row, reference_room, alternative_room);
         from = lines::next_row(rows, from);
     }
@@ -198,5 +198,5 @@ fn main() {
     let parted = terminal::put(page, agreeing, b" of ");
     let counted = terminal::put_number(page, parted, run.all);
     let used = terminal::put(page, counted, b" rows agree\n");
-    io::write_all(libc::STDOUT_FILENO, terminal::part(page, 0, used));
+    io::write_all(libc::STDOUT_FILENO, text::part(page, 0, used));
 }

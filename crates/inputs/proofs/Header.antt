@@ -5,7 +5,7 @@ use mathlib.Core.List.{List, [], _∷_}
 use native.Mathlib.Omega.{arith}
 use borrow.Author.Tests.{eq-eqb, ne-eqb}
 use lib.ListN.{length, getD}
-use Rattle.terminal.specs.Text.{partOf, foundAt}
+use Rattle.text.specs.Text.{partOf, foundAt}
 use lib.Dec.{ltb}
 use Rattle.inputs.specs.declared.Letters.{Letters}
 use Rattle.inputs.specs.Letters.{lettersStart, recordOf, keptIn, behindRecord, lettersRead}

@@ -5,11 +5,11 @@ use mathlib.Core.List.{List, [], _∷_, _++_}
 use mathlib.Core.Option.{Option, none, some}
 use borrow.Author.Tests.{eq-eqb, ne-eqb, le-leb, lt-leb}
 use lib.ListN.{length, set}
-use Rattle.terminal.specs.Text.{partOf, foundAt}
-use Rattle.terminal.specs.Decimal.{decimalOf}
-use Rattle.terminal.specs.declared.Number.{Number}
-use Rattle.terminal.specs.Laid.{laidAt}
-use Rattle.terminal.proofs.Laid.{laid-nothing, laid-one, laid-after}
+use Rattle.text.specs.Text.{partOf, foundAt}
+use Rattle.decimals.specs.Decimal.{decimalOf}
+use Rattle.decimals.specs.declared.Number.{Number}
+use Rattle.text.specs.Laid.{laidAt}
+use Rattle.text.proofs.Laid.{laid-nothing, laid-one, laid-after}
 use Rattle.inputs.specs.declared.Exons.the-variants.{Table, BadPair, TooMany}
 use Rattle.inputs.specs.Exons.{fourBytes, bothNumbers, pairBytes, pairCame, pairPut}
 

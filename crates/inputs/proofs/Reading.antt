@@ -7,9 +7,9 @@ use mathlib.Core.List.{List, [], _∷_, _++_}
 use mathlib.Core.Option.{Option, none, some}
 use lib.Dec.{leb}
 use lib.ListN.{length, drop, length-append}
-use Rattle.terminal.specs.Text.{partOf, foundAt}
-use Rattle.terminal.specs.Laid.{laidAt}
-use Rattle.terminal.proofs.Laid.{length-laid, laid-nothing, laid-after}
+use Rattle.text.specs.Text.{partOf, foundAt}
+use Rattle.text.specs.Laid.{laidAt}
+use Rattle.text.proofs.Laid.{length-laid, laid-nothing, laid-after}
 use Rattle.inputs.specs.declared.Exons.{Exons}
 use Rattle.inputs.specs.declared.Exons.the-variants.{Table, BadPair, TooMany}
 use Rattle.inputs.specs.Exons.{Pairs, partsAt, pairBytes, pairCame, pairPut, goingOn, pairsBehind, pairsOf}

@@ -9,7 +9,7 @@ use lib.Dec.{eqb}
 use lib.ListN.{length, take, drop, length-drop}
 use lib.Seq.{take-length, drop-drop}
 use Rattle.bytes.specs.Bytes.{indexOf, indexAfter, slice}
-use Rattle.terminal.specs.Text.{partOf, foundAt}
+use Rattle.text.specs.Text.{partOf, foundAt}
 use Rattle.inputs.specs.Exons.{onFirst, partsAt}
 
 pub record Parted (byte : ℕ) (xs part : List ℕ) : Type 0 where

@@ -5,10 +5,10 @@ use mathlib.Core.List.{List, [], _∷_, _++_}
 use mathlib.Core.Option.{Option, none, some}
 use lib.Dec.{eqb, leb}
 use lib.ListN.{length}
-use Rattle.terminal.specs.Text.{partOf, foundAt}
-use Rattle.terminal.specs.Decimal.{decimalOf}
-use Rattle.terminal.specs.declared.Number.{Number}
-use Rattle.terminal.specs.declared.Number.the-variants.{Is, Bad}
+use Rattle.text.specs.Text.{partOf, foundAt}
+use Rattle.decimals.specs.Decimal.{decimalOf}
+use Rattle.decimals.specs.declared.Number.{Number}
+use Rattle.decimals.specs.declared.Number.the-variants.{Is, Bad}
 use Rattle.inputs.specs.declared.Exons.{Exons}
 use Rattle.inputs.specs.declared.Exons.the-variants.{Table, BadPair, TooMany}
 

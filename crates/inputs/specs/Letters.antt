@@ -4,7 +4,7 @@ use mathlib.Core.Bool.{Bool, true, false, cond, _||_}
 use mathlib.Core.List.{List, [], _∷_}
 use lib.Dec.{ltb, eqb}
 use lib.ListN.{length, take}
-use Rattle.terminal.specs.Text.{partOf, foundAt}
+use Rattle.text.specs.Text.{partOf, foundAt}
 use Rattle.definition.specs.Reply.{written}
 use Rattle.inputs.specs.declared.Letters.{Letters}
 use Rattle.inputs.specs.declared.Letters.the-variants.{Read, SecondRecord, TooLong}

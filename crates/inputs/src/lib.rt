@@ -6,8 +6,8 @@ ghost use Prim.Native.Nat.{_+_, _<_, _≤_};
 ghost use lib.ListN.{length, set};
 ghost use Rattle.inputs.specs.Letters.{upperCase, isBlank, lettersStart, recordOf, keptIn, behindRecord, lettersRead, lettersLaid};
 ghost use Rattle.inputs.specs.Exons.{fourBytes, pairBytes, pairCame, pairPut, pairsOf};
-ghost use Rattle.terminal.specs.Laid.{laidAt};
-use terminal::Number;
+ghost use Rattle.text.specs.Laid.{laidAt};
+use decimals::Number;
 
 // The pairs that a table has room for: one more than row 10 accepts, so that it is row 10 that refuses them.
 pub const MOST_PAIRS: usize = 513;
@@ -54,7 +54,7 @@ fn letters_start(text: &[u8]) -> usize
         return 0;
     }
     if text[0] == b'>' {
-        return terminal::find(text, 0, b'\n');
+        return text::find(text, 0, b'\n');
     }
     0
 }
@@ -110,8 +110,8 @@ pub fn read_letters(text: &[u8], target: &mut [u8]) -> Letters
     ensures { λ r. ⌜ now (target .exit) ≡ lettersLaid (recordOf (now (text .entry))) (now (target .entry)) ⌝ }
 {
     let start = letters_start(text);
-    let end = terminal::find(text, start, b'>');
-    let kept = keep_letters(terminal::part(text, start, end), target);
+    let end = text::find(text, start, b'>');
+    let kept = keep_letters(text::part(text, start, end), target);
     behind_record(end < text.len(), kept)
 }
 
@@ -140,14 +140,14 @@ fn put_exon(pair: &[u8], table: &mut [u8], at: usize) -> Exons
     ensures { λ r. ⌜ r ≡ pairCame at (pairBytes (now (pair .entry))) ⌝ }
     ensures { λ r. ⌜ now (table .exit) ≡ laidAt at (pairPut at (pairBytes (now (pair .entry)))) (now (table .entry)) ⌝ }
 {
-    let dash = terminal::find(pair, 0, b'-');
+    let dash = text::find(pair, 0, b'-');
     if dash == pair.len() {
         return Exons::BadPair;
     }
-    let Number::Is(start) = terminal::decimal(terminal::part(pair, 0, dash)) else {
+    let Number::Is(start) = decimals::decimal(text::part(pair, 0, dash)) else {
         return Exons::BadPair;
     };
-    let Number::Is(end) = terminal::decimal(terminal::part(pair, dash + 1, pair.len())) else {
+    let Number::Is(end) = decimals::decimal(text::part(pair, dash + 1, pair.len())) else {
         return Exons::BadPair;
     };
     if MOST_PAIRS * 8 <= at {
@@ -166,8 +166,8 @@ pub fn read_exons(list: &[u8], table: &mut [u8]) -> Exons
     let mut size = 0;
     let mut from = 0;
     while from <= list.len() {
-        let comma = terminal::find(list, from, b',');
-        match put_exon(terminal::part(list, from, comma), table, size) {
+        let comma = text::find(list, from, b',');
+        match put_exon(text::part(list, from, comma), table, size) {
             Exons::Table(next) => size = next,
             Exons::BadPair => return Exons::BadPair,
             Exons::TooMany => return Exons::TooMany,

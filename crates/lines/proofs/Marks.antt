@@ -7,8 +7,8 @@ use native.Mathlib.Omega.{arith}
 use borrow.Author.Tests.{eq-eqb, ne-eqb, le-ltb}
 use lib.ListN.{length, drop, getD, drop-of-length-le}
 use lib.Seq.{drop-cons}
-use Rattle.terminal.specs.Text.{partOf}
-use Rattle.terminal.specs.Decimal.{decimalOf}
+use Rattle.text.specs.Text.{partOf}
+use Rattle.decimals.specs.Decimal.{decimalOf}
 use Rattle.lines.specs.Runs.{digitsIn, timesIn, markSize, orOnce}
 use Rattle.lines.proofs.Digits.{digits-front}
 

@@ -7,8 +7,8 @@ use mathlib.Core.List.{List, [], _∷_, _++_}
 use borrow.Author.Tests.{ltb-true, ltb-false}
 use lib.Dec.{ltb}
 use lib.ListN.{length, set, length-append, replicate, replicate-append-replicate}
-use Rattle.terminal.specs.Laid.{laidAt}
-use Rattle.terminal.proofs.Laid.{length-laid, laid-nothing, laid-one, laid-full, laid-after}
+use Rattle.text.specs.Laid.{laidAt}
+use Rattle.text.proofs.Laid.{length-laid, laid-nothing, laid-one, laid-full, laid-after}
 use Rattle.lines.specs.Fields.{Put}
 
 pub put-nothing : (text : List ℕ) (size : ℕ) → Put text size [] text size

@@ -3,8 +3,8 @@ use Prim.Native.Nat.{ℕ, _+_, min, max}
 use mathlib.Core.Path.{_≡_}
 use mathlib.Core.List.{List}
 use lib.ListN.{length}
-use Rattle.terminal.specs.Text.{partOf, foundAt, afterFound}
-use Rattle.terminal.specs.Laid.{laidAt}
+use Rattle.text.specs.Text.{partOf, foundAt, afterFound}
+use Rattle.text.specs.Laid.{laidAt}
 
 -- the bytes of a line from an index up to the next bar, 124
 abbrev pub fieldAt : List ℕ → ℕ → List ℕ

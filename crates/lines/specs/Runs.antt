@@ -4,9 +4,9 @@ use mathlib.Core.Bool.{Bool, true, false, cond}
 use mathlib.Core.List.{List, [], _∷_, _++_}
 use lib.Dec.{ltb, eqb}
 use lib.ListN.{length, drop, replicate}
-use Rattle.terminal.specs.Decimal.{decimalOf}
-use Rattle.terminal.specs.declared.Number.{Number}
-use Rattle.terminal.specs.declared.Number.the-variants.{Is, Bad}
+use Rattle.decimals.specs.Decimal.{decimalOf}
+use Rattle.decimals.specs.declared.Number.{Number}
+use Rattle.decimals.specs.declared.Number.the-variants.{Is, Bad}
 
 abbrev pub isDigit : ℕ → Bool
 isDigit byte = cond (ltb byte 48) false (cond (ltb 57 byte) false true)

@@ -5,21 +5,21 @@ ghost use Prim.Native.Nat.{_+_, _<_, _≤_, min};
 ghost use lib.ListN.{length, drop, replicate};
 ghost use Rattle.lines.specs.Fields.{fieldAt, nextFieldAt, nextRowAt, Put};
 ghost use Rattle.lines.specs.Runs.{orOnce, digitsIn, timesIn, markSize, separatedBy, expanded};
-ghost use Rattle.terminal.specs.Decimal.{decimalOf};
-use terminal::Number;
+ghost use Rattle.decimals.specs.Decimal.{decimalOf};
+use decimals::Number;
 
 // The bytes of a line from an index up to the next bar.
 pub fn field(line: &[u8], from: usize) -> &[u8]
     ensures { λ r. ⌜ now r ≡ fieldAt (now (line .entry)) from ⌝ }
 {
-    terminal::part(line, from, terminal::find(line, from, b'|'))
+    text::part(line, from, text::find(line, from, b'|'))
 }
 
 // Where the field after it begins: the line's end where there is none.
 pub fn next_field(line: &[u8], from: usize) -> usize
     ensures { λ r. ⌜ r ≡ nextFieldAt (now (line .entry)) from ⌝ }
 {
-    terminal::after(line, from, b'|')
+    text::after(line, from, b'|')
 }
 
 // Where the row after it begins: the table's end where there is none.
@@ -27,7 +27,7 @@ pub fn next_row(rows: &[u8], from: usize) -> usize
     ensures { λ r. ⌜ r ≡ nextRowAt (now (rows .entry)) from ⌝ }
     ensures { λ r. ⌜ (r ≤ length (now (rows .entry))) × (min (from + 1) (length (now (rows .entry))) ≤ r) ⌝ }
 {
-    terminal::after(rows, from, b'\n')
+    text::after(rows, from, b'\n')
 }
 
 // A byte put at the end of a text of this size, if there is room; the size then.
@@ -92,7 +92,7 @@ fn count_at(field: &[u8], from: usize) -> u32
     requires { ⌜ from ≤ length (now field) ⌝ }
     ensures { λ r. ⌜ r ≡ orOnce (decimalOf (digitsIn (drop from (now (field .entry))))) ⌝ }
 {
-    match terminal::decimal(terminal::part(field, from, digits_end(field, from))) {
+    match decimals::decimal(text::part(field, from, digits_end(field, from))) {
         Number::Is(count) => count,
         Number::Bad => 1,
     }

@@ -7,8 +7,8 @@ use Rattle.definition.specs.Bases.{sameBases}
 use Rattle.names.specs.declared.Name.{Name}
 use Rattle.names.specs.declared.Name.the-variants.{Target, File, Exons, Alternative, Kind, Edit, Direction, Window, CdsStart, CdsEnd, Cds, Range, Unknown}
 use Rattle.terminal.specs.Page.{ascii}
-use Rattle.terminal.specs.declared.Number.{Number}
-use Rattle.terminal.specs.declared.Number.the-variants.{Is, Bad}
+use Rattle.decimals.specs.declared.Number.{Number}
+use Rattle.decimals.specs.declared.Number.the-variants.{Is, Bad}
 
 -- what a word means: what the first row says that has it, and something else where none has
 unfoldable pub meaning : {A : Type 0} → List (String × A) → A → List ℕ → A

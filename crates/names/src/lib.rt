@@ -2,7 +2,7 @@
 ghost use mathlib.Core.Path.{_≡_};
 ghost use Rattle.definition.specs.Bases.{sameBases};
 ghost use Rattle.names.specs.Words.{targetOptions, meaning, nameOf, kindCode, editCode, directionCode};
-use terminal::Number;
+use decimals::Number;
 
 // The options, by name.
 pub enum Name {

@@ -75,15 +75,15 @@ fn put_class_line(page: &mut [u8], used: usize, answer: Answered) -> usize {
     let titled = terminal::put(page, used, b"class        ");
     let numbered = terminal::put_number(page, titled, codes::class_number(class) as usize);
     let spaced = terminal::put_byte(page, numbered, b' ');
-    let named = answers::put_class(page, spaced, class);
+    let named = values::put_class(page, spaced, class);
     let ended = terminal::put(page, named, b"\nrange        ");
-    answers::put_range(page, ended, answer.start.0, answer.end.0)
+    values::put_range(page, ended, answer.start.0, answer.end.0)
 }
 
 // The name of an allele, and the allele.
 fn put_allele_line(page: &mut [u8], used: usize, name: &[u8], buffer: &[u8], size: usize) -> usize {
     let named = terminal::put(page, used, name);
-    answers::put_allele(page, named, buffer, size)
+    values::put_allele(page, named, buffer, size)
 }
 
 // An answer on five lines.
@@ -133,7 +133,7 @@ fn put_outcome(
 // What is said where words reach no outcome: the usage where they ask for it.
 fn put_problem(page: &mut [u8], used: usize, text: &[u8], problem: Problem) -> usize {
     if let Problem::Wrong(_, at) = problem {
-        if check::same(terminal::word(text, at), b"--help") {
+        if check::same(text::word(text, at), b"--help") {
             return usage::put_usage(page, used);
         }
     }
@@ -169,7 +169,7 @@ fn put_all(page: &mut [u8]) -> usize {
     let mut space = [0u8; 262144];
     let text: &mut [u8] = &mut space;
     match gather(text) {
-        Gathered::Words(size) => put_reply(page, terminal::part(text, 0, size)),
+        Gathered::Words(size) => put_reply(page, text::part(text, 0, size)),
         Gathered::TooLong => terminal::put(
             page,
             0,
@@ -182,5 +182,5 @@ fn main() {
     let mut space = [0u8; 266240];
     let page: &mut [u8] = &mut space;
     let used = put_all(page);
-    io::write_all(libc::STDOUT_FILENO, terminal::part(page, 0, used));
+    io::write_all(libc::STDOUT_FILENO, text::part(page, 0, used));
 }

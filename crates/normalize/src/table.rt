@@ -38,7 +38,7 @@ fn put_answer(page: &mut [u8], used: usize, row: &[u8]) -> usize
     let named = lines::expand(b"--target CAAATGGTACCA ", 0, words, 0);
     let filled = lines::expand(row, 0, words, named);
     let size = lines::push(words, filled, 0);
-    put_reached(page, used, terminal::part(words, 0, size))
+    put_reached(page, used, text::part(words, 0, size))
 }
 
 fn put_row(page: &mut [u8], used: usize, row: &[u8]) -> usize
@@ -56,8 +56,8 @@ fn put_rows(page: &mut [u8], used: usize, rows: &[u8]) -> usize
     let mut count = used;
     let mut from = 0;
     while from < rows.len() {
-        let end = terminal::find(rows, from, b'\n');
-        count = put_row(page, count, terminal::part(rows, from, end));
+        let end = text::find(rows, from, b'\n');
+        count = put_row(page, count, text::part(rows, from, end));
         from = lines::next_row(rows, from);
     }
     count

@@ -13,7 +13,7 @@ use Rattle.definition.specs.Request as definition
 use Rattle.definition.specs.Verdict.{verdict}
 use Rattle.definition.specs.Reply.{Reply, reply, refusalNumber, written}
 use Rattle.normalizer.specs.Asked.{asked}
-use Rattle.terminal.specs.Text.{partOf}
+use Rattle.text.specs.Text.{partOf}
 use Rattle.records.specs.declared.Compared.{Compared}
 use Rattle.records.specs.declared.Part.{Part}
 use Rattle.records.specs.declared.Request.{Request}

@@ -216,7 +216,7 @@ fn bytes_of<'a>(file: &'a [u8], part: Part) -> &'a [u8]
 {
     let from = part.from;
     let to = part.to;
-    terminal::part(file, from, to)
+    text::part(file, from, to)
 }
 
 // What comes back of a request, in numbers.

@@ -4,7 +4,7 @@ use mathlib.Core.Path.{_≡_, sym, ap, _∙_}
 use mathlib.Core.List.{List}
 use borrow.Author.Tests.{eq-eqb, ne-eqb}
 use lib.ListN.{length}
-use Rattle.terminal.specs.Text.{wordAt, nextWordAt}
+use Rattle.text.specs.Text.{wordAt, nextWordAt}
 use Rattle.names.specs.Words.{nameOf}
 use Rattle.names.specs.declared.Name.{Name}
 use Rattle.requests.specs.declared.Request.{Request}

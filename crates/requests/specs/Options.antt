@@ -4,8 +4,8 @@ use mathlib.Core.Bool.{cond}
 use mathlib.Core.List.{List}
 use lib.Dec.{eqb, ltb}
 use lib.ListN.{length}
-use Rattle.terminal.specs.Decimal.{decimalOf}
-use Rattle.terminal.specs.Text.{wordAt, nextWordAt}
+use Rattle.decimals.specs.Decimal.{decimalOf}
+use Rattle.text.specs.Text.{wordAt, nextWordAt}
 use Rattle.names.specs.Words.{nameOf, kindCode, editCode, directionCode}
 use Rattle.names.specs.declared.Name.{Name}
 use Rattle.names.specs.declared.Name.the-variants.{Target, File, Exons, Alternative, Kind, Edit, Direction, Window, CdsStart, CdsEnd, Cds, Range, Unknown}

@@ -1,7 +1,7 @@
 -- A request of which nothing is said yet, and with one part said. Assumes nothing.
 use Prim.Native.Nat.{ℕ}
-use Rattle.terminal.specs.declared.Number.{Number}
-use Rattle.terminal.specs.declared.Number.the-variants.{Is, Bad}
+use Rattle.decimals.specs.declared.Number.{Number}
+use Rattle.decimals.specs.declared.Number.the-variants.{Is, Bad}
 use Rattle.requests.specs.declared.Words.{Words}
 use Rattle.requests.specs.declared.Codes.{Codes}
 use Rattle.requests.specs.declared.Bound.{Bound}

@@ -4,8 +4,8 @@ ghost use Prim.Native.Nat.{_+_, _≤_, min};
 ghost use lib.ListN.{length};
 ghost use Rattle.requests.specs.Request.{nothing, withKind, withEdit, withDirection, withWindow, withBounds, withCdsStart, withCdsEnd, withCds, withRange};
 ghost use Rattle.requests.specs.Options.{withOption, valuesOf, withNext, afterOption, requestOf};
+use decimals::Number;
 use names::Name;
-use terminal::Number;
 
 // Where a word that was not given begins: past every text, so that it reads as the empty word.
 pub const NO_WORD: usize = 18446744073709551615;
@@ -224,11 +224,11 @@ fn with_option(asked: Request, name: Name, word: &[u8], other: &[u8], at: usize)
         Name::Kind => return with_kind(asked, names::kind_code(word)),
         Name::Edit => return with_edit(asked, names::edit_code(word)),
         Name::Direction => return with_direction(asked, names::direction_code(word)),
-        Name::Window => return with_window(asked, terminal::decimal(word)),
-        Name::CdsStart => return with_cds_start(asked, terminal::decimal(word)),
-        Name::CdsEnd => return with_cds_end(asked, terminal::decimal(word)),
-        Name::Cds => return with_cds(asked, terminal::decimal(word), terminal::decimal(other)),
-        Name::Range => return with_range(asked, terminal::decimal(word), terminal::decimal(other)),
+        Name::Window => return with_window(asked, decimals::decimal(word)),
+        Name::CdsStart => return with_cds_start(asked, decimals::decimal(word)),
+        Name::CdsEnd => return with_cds_end(asked, decimals::decimal(word)),
+        Name::Cds => return with_cds(asked, decimals::decimal(word), decimals::decimal(other)),
+        Name::Range => return with_range(asked, decimals::decimal(word), decimals::decimal(other)),
         Name::Unknown => return Step::Wrong(Fault::UnknownOption),
     }
     Step::Next(request)
@@ -259,16 +259,16 @@ fn values_of(name: Name) -> usize
 fn with_next(asked: Request, text: &[u8], at: usize) -> Step
     ensures { λ r. ⌜ r ≡ withNext asked (now (text .entry)) at ⌝ }
 {
-    let name = names::name_of(terminal::word(text, at));
+    let name = names::name_of(text::word(text, at));
     if values_of(name) == 0 {
         return Step::Wrong(Fault::UnknownOption);
     }
-    let value = terminal::next_word(text, at);
+    let value = text::next_word(text, at);
     if value == text.len() {
         return Step::Wrong(Fault::NoValue);
     }
-    let other = terminal::word(text, terminal::next_word(text, value));
-    with_option(asked, name, terminal::word(text, value), other, value)
+    let other = text::word(text, text::next_word(text, value));
+    with_option(asked, name, text::word(text, value), other, value)
 }
 
 // Where the option after it begins.
@@ -276,10 +276,10 @@ fn after_option(text: &[u8], at: usize) -> usize
     ensures { λ r. ⌜ r ≡ afterOption (now (text .entry)) at ⌝ }
     ensures { λ r. ⌜ (r ≤ length (now (text .entry))) × (min (at + 1) (length (now (text .entry))) ≤ r) ⌝ }
 {
-    let name = names::name_of(terminal::word(text, at));
-    let behind = terminal::next_word(text, terminal::next_word(text, at));
+    let name = names::name_of(text::word(text, at));
+    let behind = text::next_word(text, text::next_word(text, at));
     if values_of(name) == 2 {
-        return terminal::next_word(text, behind);
+        return text::next_word(text, behind);
     }
     behind
 }

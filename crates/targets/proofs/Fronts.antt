@@ -9,7 +9,7 @@ use lib.Dec.{ltb}
 use lib.ListN.{length, take, drop, length-append, length-drop}
 use lib.Seq.{take-at, take-all}
 use borrow.Author.Tests.{le-ltb}
-use Rattle.terminal.specs.Text.{partOf}
+use Rattle.text.specs.Text.{partOf}
 use Rattle.definition.specs.Reply.{written}
 use Rattle.inputs.specs.declared.Letters.{Letters}
 use Rattle.inputs.specs.declared.Letters.the-variants.{Read, SecondRecord, TooLong}

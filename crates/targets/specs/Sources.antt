@@ -3,7 +3,7 @@ use Prim.Native.Nat.{ℕ}
 use mathlib.Core.Bool.{cond}
 use mathlib.Core.List.{List, []}
 use lib.Dec.{eqb}
-use Rattle.terminal.specs.Text.{partOf, wordAt}
+use Rattle.text.specs.Text.{partOf, wordAt}
 use Rattle.inputs.specs.Letters.{recordOf, lettersOf, lettersRead, lettersLaid}
 use Rattle.inputs.specs.declared.Letters as letters
 use Rattle.inputs.specs.declared.Letters.the-variants as read

@@ -34,7 +34,7 @@ fn read_file(file: File, bytes: &[u8], target: &mut [u8]) -> Target
     ensures { λ r. ⌜ now (target .exit) ≡ laid (ofFile file (now (bytes .entry))) (now (target .entry)) ⌝ }
 {
     match file {
-        File::Read(size) => read_text(terminal::part(bytes, 0, size), target),
+        File::Read(size) => read_text(text::part(bytes, 0, size), target),
         File::Unreadable => Target::Unread(Unread::Unreadable),
         File::TooLong => Target::Unread(Unread::LongFile),
     }
@@ -59,7 +59,7 @@ pub fn read(
         return read_file(file, bytes, target);
     }
     if path == requests::NO_WORD {
-        return read_text(terminal::word(text, letters), target);
+        return read_text(text::word(text, letters), target);
     }
     Target::Unread(Unread::Twice)
 }

@@ -10,31 +10,6 @@ use Rattle.terminal.proofs.put_byte.Reads as put-byte
 use Rattle.terminal.proofs.put.Reads as put
 use Rattle.terminal.proofs.put_number.Reads as put-number
 use Rattle.terminal.proofs.put_gap.Reads as put-gap
-use Rattle.terminal.proofs.part.Reads as part
-use Rattle.terminal.proofs.find.Reads as find
-use Rattle.terminal.proofs.after.Reads as after
-use Rattle.terminal.proofs.word.Reads as word
-use Rattle.terminal.proofs.next_word.Reads as next-word
-use Rattle.terminal.proofs.decimal.Reads as decimal
-
--- every byte of a part
-pub part-one : Fixes (λ κs x at. now x) part.Post
-part-one κs a x y atX atY p q = p ∙ sym q
-
-pub find-one : Fixes (λ κs x at. x) find.Post
-find-one κs a x y atX atY p q = p .0 ∙ sym (q .0)
-
-pub after-one : Fixes (λ κs x at. x) after.Post
-after-one κs a x y atX atY p q = p .0 ∙ sym (q .0)
-
-pub word-one : Fixes (λ κs x at. now x) word.Post
-word-one κs a x y atX atY p q = p ∙ sym q
-
-pub next-word-one : Fixes (λ κs x at. x) next-word.Post
-next-word-one κs a x y atX atY p q = p .0 ∙ sym (q .0)
-
-pub decimal-one : Fixes (λ κs x at. x) decimal.Post
-decimal-one κs a x y atX atY p q = p ∙ sym q
 
 pub one-page : {before text after other : List ℕ} {used count end : ℕ}
     → Put before used text after count → Put before used text other end → page after count ≡ page other end

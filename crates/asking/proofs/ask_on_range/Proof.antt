@@ -1,8 +1,7 @@
 -- `asking::ask_on_range` meets its contract: by what the target comes to; its letters stand at the front of the buffer. Assumes nothing.
 use Prim.Native.Nat.{ℕ}
+use mathlib.Core.Path.{refl}
 use lib.ListN.{replicate, length-replicate}
-use Rattle.targets.specs.Sources.{sourceOf}
-use Rattle.targets.proofs.Fronts.{front}
 use Rattle.asking.proofs.Came.{stops, unread, with-letters}
 use borrow.Author.Needs.{needs}
 use Rattle.asking.proofs.ask_on_range.Statement.{statement}
@@ -34,18 +33,11 @@ same-length-2 c = search needs
 
 returns : tie.Need-returns
 returns c =
-    let s = c .before .before .before .before .before .before .before .before .before .before .before .before .before .before .before .before .before .before .before .before .before .before in
-    let at = s .args in
+    let at = c .before .before .before .before .before .before .before .before .before .before .before .before .before .before .before .before .before .before .before .before .before .before .args in
     let read = c .before .before .before .before .before .before .before .before .before .before .before .before .before .before .before .read .ensures in
-    let size = c .before .before .before .before .before .before .before .before .before .before .before .size .given in
-    let source = sourceOf (at .text .now) (at .request .words .target) (at .request .words .file) (at .file) (at .bytes .now) in
-    rw (with-letters (at .text .now) (at .request) (at .start) (at .end) (at .file) (at .bytes .now) _ _ (length-replicate {A = ℕ} 65536 0) (read .0) (size .1))
-    (rw (
-      c .before .before .before .before .before .before .before .before .part .ensures,
-      read .1,
-      front source (replicate 65536 0) (read .0) (size .1),
-    )
-    at (c .before .before .before .before .before .ask-on-target .ensures))
+    let long = length-replicate {A = ℕ} 65536 0 in
+    with-letters (at .text .now) (at .request) (at .start) (at .end) (at .file) (at .bytes .now) _ _ long (read .0) (replicate 65536 0) refl (c .before .before .before .before .before .before .before .before .before .before .before .size .given .1) (read .1)
+    (c .before .before .before .before .before .before .before .before .part .ensures) (c .before .before .before .before .before .ask-on-target .ensures)
 
 returns-2 : tie.Need-returns-2
 returns-2 c =

@@ -3,6 +3,9 @@ use lib.ListN.{replicate, length-replicate}
 use Rattle.asking.proofs.Came.{stops, answers, bad-exons, too-many, with-table}
 use Rattle.asking.proofs.Tables.{table-front}
 use Prim.Native.Nat.{ℕ}
+use mathlib.Core.Path.{ap, _∙_}
+use mathlib.Core.List.{List}
+use Rattle.text.specs.Text.{partOf}
 use borrow.Author.Needs.{needs}
 use Rattle.asking.proofs.ask_on_target.Statement.{statement}
 use Rattle.asking.proofs.ask_on_target.Tie as tie
@@ -48,17 +51,15 @@ same-length-2 c = search needs
 
 returns-3 : tie.Need-returns-3
 returns-3 c =
-    let s = c .before .before .before .before .before .before .before .before .before .before .before .before .before .before .before .before .before .before .before .before .before .before in
-    let at = s .args in
+    let at = c .before .before .before .before .before .before .before .before .before .before .before .before .before .before .before .before .before .before .before .before .before .before .args in
     let exons = c .before .before .before .before .before .before .before .before .before .before .before .before .before .before .before .exons-at .ensures in
     let size = c .before .before .before .before .before .before .before .before .before .before .before .size .given in
+    let bytes = c .before .before .before .before .before .before .before .before .part .ensures
+    ∙ ap (λ (table : List ℕ). partOf table 0 (size .0 .0)) (exons .1)
+    ∙ table-front (at .text .now) (at .request .words .exons) (replicate 4104 0) (length-replicate {A = ℕ} 4104 0) (exons .0) (size .1)
+    in
     answers (with-table (at .text .now) (at .request) (at .start) (at .end) (at .target .now) _ _ (exons .0) (size .1))
-    (rw (
-      c .before .before .before .before .before .before .before .before .part .ensures,
-      exons .1,
-      table-front (at .text .now) (at .request .words .exons) (replicate 4104 0) (length-replicate {A = ℕ} 4104 0) (exons .0) (size .1),
-    )
-    at (c .before .before .before .before .before .hand .ensures))
+    (rw bytes at (c .before .before .before .before .before .hand .ensures))
 
 pub ask-on-target-spec : {M : Type 1} → statement M
 ask-on-target-spec =

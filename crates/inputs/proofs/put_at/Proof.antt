@@ -2,7 +2,7 @@
 use mathlib.Core.Path.{sym, _∙_}
 use native.Mathlib.Omega.{arith}
 use borrow.Author.Needs.{needs}
-use Rattle.terminal.proofs.Laid.{laid-one, laid-full}
+use Rattle.text.proofs.Laid.{laid-one, laid-full}
 use Rattle.inputs.proofs.put_at.Statement.{statement}
 use Rattle.inputs.proofs.put_at.Tie as tie
 

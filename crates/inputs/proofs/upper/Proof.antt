@@ -1,6 +1,6 @@
 -- `inputs::upper` meets its contract: each test is a case of the definition. Assumes nothing.
 use borrow.Author.Needs.{needs}
-use Rattle.terminal.proofs.Tests.{tests}
+use Rattle.text.proofs.Tests.{tests}
 use Rattle.inputs.specs.Letters.{upperCase}
 use Rattle.inputs.proofs.upper.Statement.{statement}
 use Rattle.inputs.proofs.upper.Tie as tie

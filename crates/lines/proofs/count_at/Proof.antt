@@ -1,7 +1,7 @@
 -- `lines::count_at` meets its contract: the part is the digits, and their number or 1 comes back. Assumes nothing.
 use mathlib.Core.Path.{sym, ap, _∙_}
 use borrow.Author.Needs.{needs}
-use Rattle.terminal.specs.Decimal.{decimalOf}
+use Rattle.decimals.specs.Decimal.{decimalOf}
 use Rattle.lines.specs.Runs.{orOnce}
 use Rattle.lines.proofs.Marks.{digits-part}
 use Rattle.lines.proofs.count_at.Statement.{statement}

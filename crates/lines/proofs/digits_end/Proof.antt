@@ -4,7 +4,7 @@ use native.Mathlib.Omega.{arith}
 use mathlib.Core.Path.{_≡_, refl}
 use lib.ListN.{length, drop}
 use borrow.Author.Needs.{needs}
-use Rattle.terminal.proofs.Tests.{tests}
+use Rattle.text.proofs.Tests.{tests}
 use Rattle.lines.specs.Runs.{digitsIn}
 use Rattle.lines.proofs.Digits.{one-more, stopped, at-end}
 use Rattle.lines.proofs.digits_end.Statement.{statement}

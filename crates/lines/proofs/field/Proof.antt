@@ -1,7 +1,7 @@
 -- `lines::field` meets its contract: what `part` gives up to where `find` stops. Assumes nothing.
 use mathlib.Core.Path.{_∙_, ap}
 use denote.Ref.{now}
-use Rattle.terminal.specs.Text.{partOf}
+use Rattle.text.specs.Text.{partOf}
 use borrow.Author.Needs.{needs}
 use Rattle.lines.proofs.field.Statement.{statement}
 use Rattle.lines.proofs.field.Tie as tie

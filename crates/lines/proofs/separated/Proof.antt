@@ -1,5 +1,5 @@
 -- `lines::separated` meets its contract: its test is the definition's. Assumes nothing.
-use Rattle.terminal.proofs.Tests.{tests}
+use Rattle.text.proofs.Tests.{tests}
 use Rattle.lines.proofs.separated.Statement.{statement}
 use Rattle.lines.proofs.separated.Tie as tie
 

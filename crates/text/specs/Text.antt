@@ -1,0 +1,38 @@
+-- Parts, words and lines of a text. Assumes nothing.
+use Prim.Native.Nat.{ℕ, zero, suc, _+_, _-_, min}
+use mathlib.Core.Path.{_≡_}
+use mathlib.Core.Bool.{cond}
+use mathlib.Core.List.{List, [], _∷_}
+use lib.Dec.{ltb, eqb}
+use lib.ListN.{length, take, drop}
+use Rattle.bytes.specs.Bytes.{indexOf, slice}
+
+-- the bytes from one index up to another; none where they don't lie in the text in this order
+abbrev pub partOf : List ℕ → ℕ → ℕ → List ℕ
+partOf text from to = cond (ltb to from) [] (cond (ltb (length text) to) [] (take (to - from) (drop from text)))
+
+-- where the first of a byte stands at or after an index: the text's end where there is none
+abbrev pub foundAt : List ℕ → ℕ → ℕ → ℕ
+foundAt text from byte = cond (ltb (length text) from) (length text) (from + indexOf byte (slice from (length text) text))
+
+-- the index behind that byte: the text's end where there is none
+abbrev pub afterFound : List ℕ → ℕ → ℕ → ℕ
+afterFound text from byte = min (foundAt text from byte + 1) (length text)
+
+-- the word that begins at an index, up to the byte 0 that ends it
+abbrev pub wordAt : List ℕ → ℕ → List ℕ
+wordAt text from = partOf text from (foundAt text from 0)
+
+-- where the word after it begins: the text's end where there is none
+abbrev pub nextWordAt : List ℕ → ℕ → ℕ
+nextWordAt text from = afterFound text from 0
+
+-- the line of a number, which counts from 0, without its line end, 10: empty where the text has no such line
+unfoldable pub lineOf : ℕ → List ℕ → List ℕ
+lineOf number [] = []
+lineOf zero (byte ∷ text) = cond (eqb byte 10) [] (byte ∷ lineOf zero text)
+lineOf (suc number) (byte ∷ text) = lineOf (cond (eqb byte 10) number (suc number)) text
+
+-- what `line` ensures of the line that it gives back: a record, so that the text can be read off it where the lines of a literal are compared
+pub record Line (text : List ℕ) (number : ℕ) (line : List ℕ) : Type 0 where
+  pub is : line ≡ lineOf number text

@@ -1,0 +1,69 @@
+// Parts of a text, by the bytes that part it: a byte 0 ends each word, and a line end each line.
+ghost use mathlib.Core.Path.{_≡_};
+ghost use Prim.Native.Nat.{_+_, _≤_, min};
+ghost use lib.ListN.{length};
+ghost use Rattle.text.specs.Text.{partOf, foundAt, afterFound, wordAt, nextWordAt, Line};
+
+// The bytes from one index up to another; none where they don't lie in the text in this order.
+pub fn part(text: &[u8], from: usize, to: usize) -> &[u8]
+    ensures { λ r. ⌜ now r ≡ partOf (now (text .entry)) from to ⌝ }
+{
+    if to < from {
+        return &text[..0];
+    }
+    if text.len() < to {
+        return &text[..0];
+    }
+    &text[from..to]
+}
+
+// Where the first of a byte stands at or after an index: the text's end where there is none.
+pub fn find(text: &[u8], from: usize, byte: u8) -> usize
+    ensures { λ r. ⌜ r ≡ foundAt (now (text .entry)) from byte ⌝ }
+    ensures { λ r. ⌜ (r ≤ length (now (text .entry))) × (min from (length (now (text .entry))) ≤ r) ⌝ }
+{
+    if text.len() < from {
+        return text.len();
+    }
+    bytes::scan::find(text, from, text.len(), byte)
+}
+
+// The word that begins at an index. A byte 0 ends each word.
+pub fn word(text: &[u8], from: usize) -> &[u8]
+    ensures { λ r. ⌜ now r ≡ wordAt (now (text .entry)) from ⌝ }
+{
+    part(text, from, find(text, from, 0))
+}
+
+// The index behind the first of a byte at or after an index: the text's end where there is none.
+pub fn after(text: &[u8], from: usize, byte: u8) -> usize
+    ensures { λ r. ⌜ r ≡ afterFound (now (text .entry)) from byte ⌝ }
+    ensures { λ r. ⌜ (r ≤ length (now (text .entry))) × (min (from + 1) (length (now (text .entry))) ≤ r) ⌝ }
+{
+    let at = find(text, from, byte);
+    if at < text.len() {
+        return at + 1;
+    }
+    text.len()
+}
+
+// Where the word after it begins: the text's end where there is none.
+pub fn next_word(text: &[u8], from: usize) -> usize
+    ensures { λ r. ⌜ r ≡ nextWordAt (now (text .entry)) from ⌝ }
+    ensures { λ r. ⌜ (r ≤ length (now (text .entry))) × (min (from + 1) (length (now (text .entry))) ≤ r) ⌝ }
+{
+    after(text, from, 0)
+}
+
+// The line of a number, which counts from 0: empty where the text has no such line.
+pub fn line(text: &[u8], number: usize) -> &[u8]
+    ensures { λ r. ⌜ Line (now (text .entry)) number (now r) ⌝ }
+{
+    let mut from = 0;
+    let mut i = 0;
+    while i < number {
+        from = after(text, from, b'\n');
+        i += 1;
+    }
+    part(text, from, find(text, from, b'\n'))
+}
