@@ -17,7 +17,7 @@ fn lent(rounds: u32) -> usize {
     let mut shared: usize = 0;
     let mut i: u32 = 0;
     while i < rounds {
-        shared = rotating::window_right(
+        shared = windows::window_right(
             &mut reference.bytes,
             head,
             1,

@@ -110,7 +110,7 @@ pub fn trim_front(a: Allele, b: Allele) -> Trimmed
     let a_count = a.count;
     let b_head = b.head;
     let b_count = b.count;
-    let n = rotating::common_front(&a.bytes, a_head, a_count, &b.bytes, b_head, b_count);
+    let n = ends::common_front(&a.bytes, a_head, a_count, &b.bytes, b_head, b_count);
     Trimmed {
         count: n,
         left: a.keep_back(a_count - n),
@@ -128,7 +128,7 @@ pub fn trim_back(a: Allele, b: Allele) -> Trimmed
     let a_count = a.count;
     let b_head = b.head;
     let b_count = b.count;
-    let n = rotating::common_back(&a.bytes, a_head, a_count, &b.bytes, b_head, b_count);
+    let n = ends::common_back(&a.bytes, a_head, a_count, &b.bytes, b_head, b_count);
     Trimmed {
         count: n,
         left: a.keep_front(a_count - n),

@@ -1,5 +1,3 @@
 pub mod Laws
-pub mod Ends
 pub mod Stores
-pub mod Moves
 pub mod Unique

@@ -5,9 +5,8 @@ use mathlib.Core.Path.{_≡_, sym, _∙_}
 use mathlib.Core.List.{List}
 use lib.ListN.{length}
 use Rattle.rotating.specs.Window.{window, StoredFront}
-use Rattle.rotating.specs.Moves.{WindowedRight, WindowedLeft}
 
--- `store_back`, `common_front`, `common_back` and `copy_out` ensure one equation with what is given, of a window, a count or a list
+-- `store_back` and `copy_out` ensure one equation with what is given, of a window or a list
 pub equal : {A : Type 0} {result other given : A} → result ≡ given → other ≡ given → result ≡ other
 equal e f = e ∙ sym f
 
@@ -16,16 +15,3 @@ pub stored-front-equal : {bytes after other part : List ℕ} {head count first p
     → StoredFront bytes after part head count first → StoredFront bytes other part head count place
     → (first ≡ place) × (window after first (count + length part) ≡ window other place (count + length part))
 stored-front-equal p q = (equal (p .place) (q .place), equal (p .front) (q .front))
-
--- `window_right` and `window_left`: the count and what both windows then hold
-pub windowed-right-equal : {r a chunk r₁ r₂ a₁ a₂ : List ℕ} {m n : ℕ}
-    → WindowedRight r a chunk r₁ a₁ m → WindowedRight r a chunk r₂ a₂ n → (m ≡ n) × (r₁ ≡ r₂) × (a₁ ≡ a₂)
-windowed-right-equal p q =
-    let e = equal (p .count) (q .count) in
-    (e, p .reference ∙ rw e (sym (q .reference)), p .alternative ∙ rw e (sym (q .alternative)))
-
-pub windowed-left-equal : {r a chunk r₁ r₂ a₁ a₂ : List ℕ} {m n : ℕ}
-    → WindowedLeft r a chunk r₁ a₁ m → WindowedLeft r a chunk r₂ a₂ n → (m ≡ n) × (r₁ ≡ r₂) × (a₁ ≡ a₂)
-windowed-left-equal p q =
-    let e = equal (p .count) (q .count) in
-    (e, p .reference ∙ rw e (sym (q .reference)), p .alternative ∙ rw e (sym (q .alternative)))

@@ -1,2 +1,1 @@
 pub mod Window
-pub mod Moves

@@ -21,10 +21,11 @@ use Rattle.definition.proofs.Final.{Pure, pure, trimmed-inside}
 use Rattle.definition.proofs.Walks.{is-pure}
 use Rattle.alleles.specs.declared.Allele.{Allele}
 use Rattle.alleles.specs.Held.{held, Holds}
-use Rattle.shuffle.specs.declared.Shuffled.{Shuffled}
+use Rattle.slides.specs.declared.Shuffled.{Shuffled}
 use Rattle.definition.proofs.Parts.{lent-part}
-use Rattle.shuffle.proofs.Slides.{inserted-part}
-use Rattle.shuffle.specs.Shuffle.{Sizes, Poised, Part, Slid, Asked, Settled}
+use Rattle.slides.proofs.Slides.{inserted-part}
+use Rattle.slides.specs.Slides.{Sizes, Poised, Part, Slid}
+use Rattle.shuffle.specs.Shuffle.{Asked, Settled}
 
 -- rightward the piece shows only by its right edge, leftward only by its left end
 pub edge-alone : (p p′ : Piece) (target : List ℕ) (start : ℕ) (r a : Allele) (s : Shuffled) → rightEdge p target ≡ rightEdge p′ target

@@ -18,7 +18,7 @@ use Rattle.definition.proofs.Places.{from-edge}
 use Rattle.definition.proofs.Trims.{length-reference}
 use Rattle.definition.proofs.Answers.{settled}
 use Rattle.alleles.specs.Held.{held}
-use Rattle.shuffle.specs.declared.Shuffled.{Shuffled}
+use Rattle.slides.specs.declared.Shuffled.{Shuffled}
 use Rattle.shuffle.specs.Shuffle.{Asked, Settled}
 use Rattle.classes.specs.Settled as result
 use Rattle.results.specs.Rules.{reported}

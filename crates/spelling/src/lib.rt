@@ -17,7 +17,7 @@ use definition::LONGEST_ALLELE;
 use definition::Outcome;
 use definition::Piece;
 use definition::Zero;
-use shuffle::Shuffled;
+use slides::Shuffled;
 
 // The shuffle of a direction.
 fn normalize_alleles(

@@ -2,7 +2,7 @@
 -- Assumes nothing.
 use borrow.Author.Needs.{needs}
 use native.Mathlib.Omega.{arith}
-use Rattle.rotating.proofs.Ends.{back, fits}
+use Rattle.ends.proofs.Ends.{back, fits}
 use Rattle.alleles.proofs.Trims.{but-last}
 use Rattle.alleles.proofs.trim_back.Statement.{statement}
 use Rattle.alleles.proofs.trim_back.Tie as tie

@@ -2,7 +2,7 @@
 -- Assumes nothing.
 use borrow.Author.Needs.{needs}
 use native.Mathlib.Omega.{arith}
-use Rattle.rotating.proofs.Ends.{front, fits}
+use Rattle.ends.proofs.Ends.{front, fits}
 use Rattle.alleles.proofs.Trims.{but-first}
 use Rattle.alleles.proofs.trim_front.Statement.{statement}
 use Rattle.alleles.proofs.trim_front.Tie as tie

@@ -1,0 +1,65 @@
+-- `windows::normalize_alleles_left_inner` meets its contract: the chunk is the part of the target before the change. Assumes nothing.
+use mathlib.Core.Path.{_≡_, ap, _∙_}
+use Prim.Native.Nat.{_-_}
+use native.Mathlib.Omega.{arith}
+use lib.ListN.{length, take, drop}
+use lib.Seq.{length-slice}
+use borrow.Author.Needs.{needs}
+use Rattle.definition.proofs.Parts.{lent-part}
+use Rattle.windows.proofs.normalize_alleles_left_inner.Statement.{statement}
+use Rattle.windows.proofs.normalize_alleles_left_inner.Tie as tie
+
+-- src/lib.rt:96:28
+sub-least : tie.Need-sub-least
+sub-least c = search needs
+
+-- src/lib.rt:96:9
+least-requires : tie.Need-least-requires
+least-requires c κs = search needs
+
+-- src/lib.rt:97:16
+sub-from : tie.Need-sub-from
+sub-from c = search needs
+
+-- src/lib.rt:98:17
+sub-chunk : tie.Need-sub-chunk
+sub-chunk c = search needs
+
+-- src/lib.rt:98:17
+part-chunk-start : tie.Need-part-chunk-start
+part-chunk-start c = search needs
+
+-- src/lib.rt:98:17
+part-chunk-end : tie.Need-part-chunk-end
+part-chunk-end c = search needs
+
+-- src/lib.rt:99:9
+window-left-requires : tie.Need-window-left-requires
+window-left-requires c κs = search needs
+
+-- src/lib.rt:73:1
+returns : tie.Need-returns
+returns c =
+    let s = c .before .before .before .before .before .before .args in
+    let size = c .before .before .before .before .least .result in
+    let e = lent-part (s .place - size) (s .place) (s .target .now) in
+    let wide : length (take (s .place - (s .place - size)) (drop (s .place - size) (s .target .now))) ≡ size =
+    ap length e ∙ length-slice (s .place - size) (s .place) (s .target .now) (omega arith) ∙ omega arith in
+    record {
+      size = c .before .before .before .before .least .ensures;
+      within = omega (arith, c .window-left .ensures .within, wide);
+      windowed = rw (← e) (c .window-left .ensures);
+    }
+
+pub normalize-alleles-left-inner-spec : {M : Type 1} → statement M
+normalize-alleles-left-inner-spec =
+    tie.close
+    (tie.spec
+    sub-least
+    least-requires
+    sub-from
+    sub-chunk
+    part-chunk-start
+    part-chunk-end
+    window-left-requires
+    returns)

@@ -1,0 +1,34 @@
+-- What one window of the move does to two alleles, with a chunk that is handed in and with the part of the target beside the change. Assumes nothing.
+use Prim.Native.Nat.{ℕ, _+_, _-_, _≤_, min}
+use mathlib.Core.Path.{_≡_}
+use mathlib.Core.List.{List, _++_}
+use lib.ListN.{length, take, drop}
+use lib.Seq.{slice}
+use Rattle.definition.specs.Prefix.{lcp, lcs}
+use Rattle.windows.specs.declared.Stepped.{Stepped}
+
+-- rightward: the chunk goes behind both alleles, the n bases of the front that they then share come off, and so does what is left of the chunk
+pub record WindowedRight (r a chunk r′ a′ : List ℕ) (n : ℕ) : Type 0 where
+  pub count : n ≡ lcp (r ++ chunk) (a ++ chunk)
+  pub within : n ≤ length chunk
+  pub reference : r′ ≡ take (length r) (drop n (r ++ chunk))
+  pub alternative : a′ ≡ take (length a) (drop n (a ++ chunk))
+
+-- leftward: the chunk goes before both alleles, the n bases of the back that they then share come off, and so does what is left of the chunk
+pub record WindowedLeft (r a chunk r′ a′ : List ℕ) (n : ℕ) : Type 0 where
+  pub count : n ≡ lcs (chunk ++ r) (chunk ++ a)
+  pub within : n ≤ length chunk
+  pub reference : r′ ≡ drop (length chunk - n) (take (length chunk + length r - n) (chunk ++ r))
+  pub alternative : a′ ≡ drop (length chunk - n) (take (length chunk + length a - n) (chunk ++ a))
+
+-- one window rightward: the bases behind the change up to the edge, at most so many
+pub record SteppedRight (target : List ℕ) (place k edge most : ℕ) (r a r′ a′ : List ℕ) (s : Stepped) : Type 0 where
+  pub size : s .size ≡ min most (edge - (place + k))
+  pub within : s .moved ≤ s .size
+  pub windowed : WindowedRight r a (slice (place + k) (place + k + s .size) target) r′ a′ (s .moved)
+
+-- one window leftward: the bases before the change down to the edge, at most so many
+pub record SteppedLeft (target : List ℕ) (place edge most : ℕ) (r a r′ a′ : List ℕ) (s : Stepped) : Type 0 where
+  pub size : s .size ≡ min most (place - edge)
+  pub within : s .moved ≤ s .size
+  pub windowed : WindowedLeft r a (slice (place - s .size) place target) r′ a′ (s .moved)
