@@ -41,7 +41,7 @@ fn by_value(rounds: u32) -> usize {
     while i < rounds {
         let longer = reference.push_back(&WINDOW);
         let other = alternative.push_back(&WINDOW);
-        let trimmed = alleles::trim_front(longer, other);
+        let trimmed = allele_trims::trim_front(longer, other);
         shared = trimmed.count;
         reference = trimmed.left.keep_front(1);
         alternative = trimmed.right.keep_front(0);

@@ -6,9 +6,7 @@ use mathlib.Core.Path.{_≡_}
 use mathlib.Core.List.{List}
 use Rattle.rotating.proofs.Unique.{equal}
 use Rattle.alleles.specs.declared.Allele.{Allele}
-use Rattle.alleles.specs.declared.Trimmed.{Trimmed}
 use Rattle.alleles.specs.Held.{held, Holds, WrittenOut}
-use Rattle.alleles.specs.Trims.{TrimmedFront, TrimmedBack}
 
 -- alleles that cannot be told apart
 pub record Alike (x y : Allele) : Type 0 where
@@ -25,19 +23,3 @@ holds-alike p q =
 pub written-out-equal : {allele : Allele} {out after other : List ℕ} {m n : ℕ}
     → WrittenOut allele out after m → WrittenOut allele out other n → (m ≡ n) × (after ≡ other)
 written-out-equal p q = (equal (p .count) (q .count), equal (p .bytes) (q .bytes))
-
--- `trim_front` and `trim_back`: the count and both rests
-pub record SameTrim (t u : Trimmed) : Type 0 where
-  pub count : t .count ≡ u .count
-  pub left : Alike (t .left) (u .left)
-  pub right : Alike (t .right) (u .right)
-
-pub trimmed-front-same : {a b : Allele} {t u : Trimmed} → TrimmedFront a b t → TrimmedFront a b u → SameTrim t u
-trimmed-front-same p q =
-    let e = equal (p .count) (q .count) in
-    record { count = e; left = holds-alike (p .left) (rw e (q .left)); right = holds-alike (p .right) (rw e (q .right)) }
-
-pub trimmed-back-same : {a b : Allele} {t u : Trimmed} → TrimmedBack a b t → TrimmedBack a b u → SameTrim t u
-trimmed-back-same p q =
-    let e = equal (p .count) (q .count) in
-    record { count = e; left = holds-alike (p .left) (rw e (q .left)); right = holds-alike (p .right) (rw e (q .right)) }

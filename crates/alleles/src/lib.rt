@@ -4,19 +4,11 @@ ghost use mathlib.Core.List.{[], _++_};
 ghost use Prim.Native.Nat.{_+_, _-_, _%_, _≤_};
 ghost use lib.ListN.{length, take, drop};
 ghost use Rattle.alleles.specs.Held.{held, Good, Holds, WrittenOut};
-ghost use Rattle.alleles.specs.Trims.{TrimmedFront, TrimmedBack};
 
 pub struct Allele {
     pub bytes: [u8; 2048],
     pub head: usize,
     pub count: usize,
-}
-
-// How many bases two alleles share at one end, and the two rests.
-pub struct Trimmed {
-    pub count: usize,
-    pub left: Allele,
-    pub right: Allele,
 }
 
 impl Allele {
@@ -97,41 +89,5 @@ impl Allele {
         let count = self.count;
         rotating::copy_out(&self.bytes, head, count, out);
         count
-    }
-}
-
-// The bases that both alleles begin with come off.
-pub fn trim_front(a: Allele, b: Allele) -> Trimmed
-    requires { ⌜ Good a ⌝ }
-    requires { ⌜ Good b ⌝ }
-    ensures { λ t. ⌜ TrimmedFront a b t ⌝ }
-{
-    let a_head = a.head;
-    let a_count = a.count;
-    let b_head = b.head;
-    let b_count = b.count;
-    let n = ends::common_front(&a.bytes, a_head, a_count, &b.bytes, b_head, b_count);
-    Trimmed {
-        count: n,
-        left: a.keep_back(a_count - n),
-        right: b.keep_back(b_count - n),
-    }
-}
-
-// The bases that both alleles end with come off.
-pub fn trim_back(a: Allele, b: Allele) -> Trimmed
-    requires { ⌜ Good a ⌝ }
-    requires { ⌜ Good b ⌝ }
-    ensures { λ t. ⌜ TrimmedBack a b t ⌝ }
-{
-    let a_head = a.head;
-    let a_count = a.count;
-    let b_head = b.head;
-    let b_count = b.count;
-    let n = ends::common_back(&a.bytes, a_head, a_count, &b.bytes, b_head, b_count);
-    Trimmed {
-        count: n,
-        left: a.keep_front(a_count - n),
-        right: b.keep_front(b_count - n),
     }
 }

@@ -15,9 +15,10 @@ use contract.Monad.{Fun, fact}
 use denote.Triple.Entry.{Args, Res}
 use denote.Triple.Clauses.{Ended, Clauses, AtExit}
 use Rattle.alleles.specs.declared.Allele.{Allele}
-use Rattle.alleles.specs.declared.Trimmed.{Trimmed}
+use Rattle.allele_trims.specs.declared.Trimmed.{Trimmed}
 use Rattle.alleles.specs.Held.{held}
-use Rattle.alleles.proofs.Unique.{Alike, holds-alike, SameTrim, trimmed-front-same, trimmed-back-same}
+use Rattle.alleles.proofs.Unique.{Alike, holds-alike}
+use Rattle.allele_trims.proofs.Unique.{SameTrim, trimmed-front-same, trimmed-back-same}
 use Rattle.alleles_in_place.specs.Rests.{rests}
 use Rattle.alleles_in_place.proofs.Facts.{agree}
 use Rattle.alleles_in_place.proofs.push_back_in as push-back-in

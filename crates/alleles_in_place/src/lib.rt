@@ -4,7 +4,7 @@ ghost use Prim.Native.Nat.{_+_, _-_, _%_, _≤_};
 ghost use mathlib.Core.List.{_++_};
 ghost use lib.ListN.{length, take, drop};
 ghost use Rattle.alleles.specs.Held.{held, Good, Holds};
-ghost use Rattle.alleles.specs.Trims.{TrimmedFront, TrimmedBack};
+ghost use Rattle.allele_trims.specs.Trims.{TrimmedFront, TrimmedBack};
 ghost use Rattle.alleles_in_place.specs.Rests.{rests};
 use alleles::Allele;
 
@@ -48,7 +48,7 @@ pub fn trim_front_in(a: &mut Allele, b: &mut Allele) -> usize
     requires { ⌜ Good (now a) × Good (now b) ⌝ }
     ensures { λ n. ⌜ TrimmedFront (now (a .entry)) (now (b .entry)) (rests n (now (a .exit)) (now (b .exit))) ⌝ }
 {
-    let t = alleles::trim_front(*a, *b);
+    let t = allele_trims::trim_front(*a, *b);
     *a = t.left;
     *b = t.right;
     t.count
@@ -59,7 +59,7 @@ pub fn trim_back_in(a: &mut Allele, b: &mut Allele) -> usize
     requires { ⌜ Good (now a) × Good (now b) ⌝ }
     ensures { λ n. ⌜ TrimmedBack (now (a .entry)) (now (b .entry)) (rests n (now (a .exit)) (now (b .exit))) ⌝ }
 {
-    let t = alleles::trim_back(*a, *b);
+    let t = allele_trims::trim_back(*a, *b);
     *a = t.left;
     *b = t.right;
     t.count

@@ -37,11 +37,11 @@ use denote.Triple.Clauses.{Ended, Clauses, atExit, closing}
 use denote.Triple.Walked.{Stays, stay-dropped, walkOf, AllGo, goes-dropped, ends-at, walked, walk-meets}
 use denote.Exit.{yes}
 use Rattle.alleles.specs.declared.Allele.{Allele}
-use Rattle.alleles.specs.declared.Trimmed.{Trimmed}
+use Rattle.allele_trims.specs.declared.Trimmed.{Trimmed}
 use Rattle.alleles.proofs.Allele as T
 use Rattle.alleles.proofs.Allele.Laws as T′
-use Rattle.alleles.proofs.Trimmed as S
-use Rattle.alleles.proofs.Trimmed.Laws as S′
+use Rattle.allele_trims.proofs.Trimmed as S
+use Rattle.allele_trims.proofs.Trimmed.Laws as S′
 use Rattle.alleles_in_place.specs.Rests.{rests}
 use Rattle.alleles_in_place.proofs.Raised.{Raised, raised}
 use Rattle.alleles_in_place.proofs.Lent.{mach, Own, IsOf, typed}

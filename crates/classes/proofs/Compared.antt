@@ -8,7 +8,7 @@ use borrow.Author.Tests.{eq-eqb, ne-eqb}
 use lib.Dec.{eqb}
 use lib.ListN.{length, drop, getD}
 use Rattle.definition.specs.Bases.{sameBases}
-use Rattle.sequences.proofs.SameBases.{same-next, same-all}
+use Rattle.bases.proofs.SameBases.{same-next, same-all}
 
 module _ (xs ys : List ℕ) (i : ℕ) (rests : sameBases (drop i xs) (drop i ys) ≡ sameBases xs ys) where
   -- b is the second's base at i

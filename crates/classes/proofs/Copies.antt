@@ -21,7 +21,7 @@ use Rattle.definition.proofs.Tests.{and-true, same-equal}
 use Rattle.rotating.specs.Window.{window}
 use Rattle.rotating.proofs.Laws.{window-length}
 use Rattle.classes.proofs.Parts.{part-window}
-use Rattle.sequences.proofs.SameBases.{not-as-long}
+use Rattle.bases.proofs.SameBases.{not-as-long}
 
 module _ (piece : Piece) (target bytes : List ℕ) (head g k : ℕ) where
   size : length (window bytes head k) ≡ k

@@ -12,7 +12,7 @@ use Rattle.definition.specs.Answer.{isInversion}
 use Rattle.rotating.specs.Window.{window}
 use Rattle.rotating.proofs.Laws.{window-length, window-at}
 use Rattle.definition.proofs.Tests.{and-false, length-reverse-complement}
-use Rattle.sequences.proofs.ReverseComplement.{reverse-complement-at}
+use Rattle.bases.proofs.ReverseComplement.{reverse-complement-at}
 
 module _ (bytes : List ℕ) (head n : ℕ) where
   pub inverted-length : length (reverseComplement (window bytes head n)) ≡ n

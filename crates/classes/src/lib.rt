@@ -14,6 +14,7 @@ ghost use Rattle.definition.specs.declared.Class.the-variants.{Deletion, Replac
 ghost use Rattle.rotating.specs.Window.{window, Placed};
 ghost use Rattle.classes.specs.Called.{unanchored, found, CallsAt, CallsInAny, CallsAny};
 ghost use Rattle.classes.specs.Settled.{Settled};
+use bases::complement;
 use codes::before_gap;
 use codes::one_based;
 use definition::Class;
@@ -21,7 +22,6 @@ use definition::Direction;
 use definition::One;
 use definition::Piece;
 use definition::Zero;
-use sequences::complement;
 
 // The base of the target that an end rule writes beside the alternative: none, the first base behind it, or the last base before it.
 pub enum Anchor {

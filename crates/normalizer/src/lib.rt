@@ -260,7 +260,7 @@ pub fn normalize(
     if rows::bad_target(target.len()) {
         return Outcome::Refuse(Refusal::BadTarget);
     }
-    if !sequences::all_bases(target) {
+    if !bases::all_bases(target) {
         return Outcome::Refuse(Refusal::BadBase);
     }
     normalize_checked(

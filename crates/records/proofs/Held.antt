@@ -10,7 +10,7 @@ use lib.Seq.{getD-append-add, getD-drop}
 use Rattle.definition.specs.Bases.{sameBases}
 use Rattle.definition.specs.Limits.{answerRoom}
 use Rattle.definition.specs.Reply.{written}
-use Rattle.sequences.proofs.SameBases.{not-as-long}
+use Rattle.bases.proofs.SameBases.{not-as-long}
 use Rattle.records.specs.Replay.{filled, holdsAllele}
 
 pub filled-length : length filled ≡ answerRoom

@@ -16,7 +16,7 @@ use Rattle.definition.specs.declared.Class.the-variants.{Replacement, Unchanged
 use Rattle.definition.specs.Bases.{sameBases}
 use Rattle.definition.specs.Answer.{Named, replacedOrUnchanged, firstBaseRule, hasLastBaseRule, lastBaseRule}
 use Rattle.definition.proofs.Tests.{same-refl}
-use Rattle.sequences.proofs.SameBases.{not-as-long}
+use Rattle.bases.proofs.SameBases.{not-as-long}
 use Rattle.definition.proofs.Tests.{and-false}
 use Rattle.classes.specs.declared.Anchor.the-variants.{Alone, First, Last}
 use Rattle.classes.specs.declared.Called.{Called}

@@ -122,7 +122,7 @@ pub fn bad_allele(edit: Edit, alternative: &[u8]) -> bool
     ensures { λ r. ⌜ r ≡ not (allBases (readAlternative edit (now (alternative .entry)))) ⌝ }
 {
     if reads_alternative(edit) {
-        return !sequences::all_bases(alternative);
+        return !bases::all_bases(alternative);
     }
     false
 }

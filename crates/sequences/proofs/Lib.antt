@@ -1,6 +1,2 @@
-pub mod AllBases
-pub mod Gathered
-pub mod ReverseComplement
-pub mod SameBases
 pub mod Suffix
 pub mod Unique

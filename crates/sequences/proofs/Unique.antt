@@ -3,28 +3,10 @@
 use mathlib.Core.Path.{sym, _∙_}
 use denote.Ref.{now}
 use Rattle.definition.proofs.Fixes.{Fixes}
-use Rattle.sequences.proofs.complement.Reads as complement
-use Rattle.sequences.proofs.all_bases.Reads as all-bases
-use Rattle.sequences.proofs.revcomp.Reads as revcomp
 use Rattle.sequences.proofs.trim_common_prefixes.Reads as trim-common-prefixes
 use Rattle.sequences.proofs.trim_common_suffixes.Reads as trim-common-suffixes
 use Rattle.sequences.proofs.after.Reads as after
 use Rattle.sequences.proofs.before_last.Reads as before-last
-use Rattle.sequences.proofs.same_bases.Reads as same-bases
-use Rattle.sequences.proofs.is_reverse_complement.Reads as is-reverse-complement
-
-pub complement-one : Fixes (λ κs x at. x) complement.Post
-complement-one κs a x y atX atY p q = p ∙ sym q
-
-pub all-bases-one : Fixes (λ κs x at. x) all-bases.Post
-all-bases-one κs a x y atX atY p q = p ∙ sym q
-
--- the count, and every byte of the buffer
-pub revcomp-one-count : Fixes (λ κs x at. x) revcomp.Post
-revcomp-one-count κs a x y atX atY p q = p .0 ∙ sym (q .0)
-
-pub revcomp-one-buffer : Fixes (λ κs x at. now (at .1 .0)) revcomp.Post
-revcomp-one-buffer κs a x y atX atY p q = p .1 ∙ sym (q .1)
 
 pub trim-common-prefixes-one : Fixes (λ κs x at. x) trim-common-prefixes.Post
 trim-common-prefixes-one κs a x y atX atY p q = p ∙ sym q
@@ -38,9 +20,3 @@ after-one κs a x y atX atY p q = p ∙ sym q
 
 pub before-last-one : Fixes (λ κs x at. now x) before-last.Post
 before-last-one κs a x y atX atY p q = p ∙ sym q
-
-pub same-bases-one : Fixes (λ κs x at. x) same-bases.Post
-same-bases-one κs a x y atX atY p q = p ∙ sym q
-
-pub is-reverse-complement-one : Fixes (λ κs x at. x) is-reverse-complement.Post
-is-reverse-complement-one κs a x y atX atY p q = p ∙ sym q

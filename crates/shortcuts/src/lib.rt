@@ -44,7 +44,7 @@ fn substitution(target: &[u8], start: Zero, end: Zero, alternative: &[u8]) -> Wa
     let from = start.0;
     let to = end.0;
     let reference = &target[from..to];
-    if sequences::same_bases(reference, alternative) {
+    if bases::same_bases(reference, alternative) {
         return Way::Same;
     }
     if to - from != 1 {

@@ -104,7 +104,7 @@ fn inverted(
     let from = start.0;
     let to = end.0;
     let mut buffer = [0u8; LONGEST_ALLELE];
-    let size = sequences::revcomp(&target[from..to], &mut buffer);
+    let size = bases::revcomp(&target[from..to], &mut buffer);
     moved(
         target,
         kind,

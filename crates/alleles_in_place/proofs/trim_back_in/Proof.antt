@@ -1,9 +1,9 @@
 -- `alleles_in_place::trim_back_in` meets its contract, by what `trim_back` asks and ensures.
 -- Assumes nothing.
 use contract.Monad.{fact-mono}
-use Rattle.alleles.proofs.trim_back as work
-use Rattle.alleles.proofs.trim_back.Symbol as work-def
-use Rattle.alleles.proofs.trim_back.Met as work-thm
+use Rattle.allele_trims.proofs.trim_back as work
+use Rattle.allele_trims.proofs.trim_back.Symbol as work-def
+use Rattle.allele_trims.proofs.trim_back.Met as work-thm
 use Rattle.alleles_in_place.proofs.Facts.{gives-both}
 use Rattle.alleles_in_place.proofs.Two.{thin}
 use Rattle.alleles_in_place.proofs.trim_back_in as form
@@ -16,4 +16,4 @@ unfolding code.routine
 trim-back-in-spec 𝓤 H 𝓜 𝓖 𝓡 =
     thin 𝓤 H 𝓜 𝓖 𝓡 (form.clauses 𝓤 H (𝓖 .A) (𝓜 .mem) (𝓡 .run)) (work.clauses 𝓤 H (𝓖 .A) (𝓜 .mem) (𝓡 .run))
     (λ κs a g. (tt, gives-both 𝓤 _ _ _ (λ asked. asked))) (λ κs a g k t ws. fact-mono 𝓤 _ _ (λ ensured. ensured))
-    code.env name work-def.name work-def.routine code.calls-alleles·trim-back (code.unfolded 𝓤 H 𝓜 𝓡) (work-thm.met 𝓤 H 𝓜 𝓖 𝓡)
+    code.env name work-def.name work-def.routine code.calls-allele-trims·trim-back (code.unfolded 𝓤 H 𝓜 𝓡) (work-thm.met 𝓤 H 𝓜 𝓖 𝓡)

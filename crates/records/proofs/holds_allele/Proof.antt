@@ -8,7 +8,7 @@ use lib.ListN.{drop}
 use Rattle.definition.specs.Bases.{sameBases}
 use Rattle.definition.specs.Limits.{answerRoom}
 use Rattle.definition.specs.Reply.{written}
-use Rattle.sequences.proofs.SameBases.{same-next, same-all}
+use Rattle.bases.proofs.SameBases.{same-next, same-all}
 use Rattle.records.specs.Replay.{filled}
 use Rattle.records.proofs.Held.{written-length, other-size, too-long, tested}
 use Rattle.records.proofs.holds_allele.Statement.{statement}

@@ -14,8 +14,8 @@ Inv-loop reference alternative most i₀ i = (i ≤ most) × (i ≤ lcp referenc
 abbrev μ-loop : tie.MeasureT-loop
 μ-loop reference alternative most i₀ i = most - i
 
-shorter-requires : tie.Need-shorter-requires Inv-loop μ-loop
-shorter-requires c κs = search needs
+least-requires : tie.Need-least-requires Inv-loop μ-loop
+least-requires c κs = search needs
 
 loop-holds : tie.Need-loop-holds Inv-loop μ-loop
 loop-holds c = search needs
@@ -56,7 +56,7 @@ trim-common-prefixes-spec =
     (tie.spec
     Inv-loop
     μ-loop
-    shorter-requires
+    least-requires
     loop-holds
     shared-slice-read-if1
     shared-slice-read-if1-2

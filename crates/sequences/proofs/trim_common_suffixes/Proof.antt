@@ -9,13 +9,13 @@ use Rattle.sequences.proofs.trim_common_suffixes.Statement.{statement}
 use Rattle.sequences.proofs.trim_common_suffixes.Tie as tie
 
 abbrev Inv-loop : tie.InvT-loop
-Inv-loop reference alternative most n m i₀ i = (i ≤ most) × (i ≤ lcs reference alternative)
+Inv-loop reference alternative n m most i₀ i = (i ≤ most) × (i ≤ lcs reference alternative)
 
 abbrev μ-loop : tie.MeasureT-loop
-μ-loop reference alternative most n m i₀ i = most - i
+μ-loop reference alternative n m most i₀ i = most - i
 
-shorter-requires : tie.Need-shorter-requires Inv-loop μ-loop
-shorter-requires c κs = search needs
+least-requires : tie.Need-least-requires Inv-loop μ-loop
+least-requires c κs = search needs
 
 loop-holds : tie.Need-loop-holds Inv-loop μ-loop
 loop-holds c = search needs
@@ -67,7 +67,7 @@ trim-common-suffixes-spec =
     (tie.spec
     Inv-loop
     μ-loop
-    shorter-requires
+    least-requires
     loop-holds
     sub-if1
     sub-if1-2

@@ -1,4 +1,4 @@
--- `sequences::revcomp` meets its contract. The invariant: the first i bytes of the reverse complement are written. Assumes nothing.
+-- `bases::revcomp` meets its contract. The invariant: the first i bytes of the reverse complement are written. Assumes nothing.
 use Prim.Native.Nat.{_≤_, _-_}
 use mathlib.Core.Path.{_≡_, refl, sym, _∙_}
 use mathlib.Core.List.{_++_}
@@ -7,10 +7,10 @@ use borrow.Author.Needs.{needs}
 use lib.ListN.{length, take, drop, length-set}
 use Rattle.definition.specs.Bases.{reverseComplement}
 use Rattle.definition.proofs.Tests.{length-reverse-complement}
-use Rattle.sequences.proofs.ReverseComplement.{reverse-complement-at}
+use Rattle.bases.proofs.ReverseComplement.{reverse-complement-at}
 use Rattle.definition.proofs.Laid.{laid-more, laid-done}
-use Rattle.sequences.proofs.revcomp.Statement.{statement}
-use Rattle.sequences.proofs.revcomp.Tie as tie
+use Rattle.bases.proofs.revcomp.Statement.{statement}
+use Rattle.bases.proofs.revcomp.Tie as tie
 
 abbrev Inv-loop : tie.InvT-loop
 Inv-loop part out₀ n i₀ out i =

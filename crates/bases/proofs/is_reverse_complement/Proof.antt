@@ -1,4 +1,4 @@
--- `sequences::is_reverse_complement` meets its contract. The invariant: the pairs so far and the rests decide together. Assumes nothing.
+-- `bases::is_reverse_complement` meets its contract. The invariant: the pairs so far and the rests decide together. Assumes nothing.
 use Prim.Native.Nat.{_≤_, _-_}
 use mathlib.Core.Path.{_≡_, sym, _∙_}
 use mathlib.Core.Bool.{_&&_}
@@ -6,11 +6,11 @@ use native.Mathlib.Omega.{arith}
 use borrow.Author.Needs.{needs}
 use lib.ListN.{drop}
 use Rattle.definition.specs.Bases.{reverseComplement, sameBases}
-use Rattle.sequences.proofs.SameBases.{not-as-long, same-next, same-all}
+use Rattle.bases.proofs.SameBases.{not-as-long, same-next, same-all}
 use Rattle.definition.proofs.Tests.{length-reverse-complement}
-use Rattle.sequences.proofs.ReverseComplement.{reverse-complement-at}
-use Rattle.sequences.proofs.is_reverse_complement.Statement.{statement}
-use Rattle.sequences.proofs.is_reverse_complement.Tie as tie
+use Rattle.bases.proofs.ReverseComplement.{reverse-complement-at}
+use Rattle.bases.proofs.is_reverse_complement.Statement.{statement}
+use Rattle.bases.proofs.is_reverse_complement.Tie as tie
 
 abbrev Inv-loop : tie.InvT-loop
 Inv-loop reference alternative n same₀ i₀ same i =

@@ -3,9 +3,9 @@ use Prim.Native.Nat.{_+_, _-_, _%_}
 use mathlib.Core.Path.{_≡_}
 use lib.ListN.{length, take, drop}
 use Rattle.definition.specs.Prefix.{lcp, lcs}
 use Rattle.alleles.specs.declared.Allele.{Allele}
-use Rattle.alleles.specs.declared.Trimmed.{Trimmed}
+use Rattle.allele_trims.specs.declared.Trimmed.{Trimmed}
 use Rattle.alleles.specs.Held.{held, Holds}
 
 -- both lose the front that they share
 pub record TrimmedFront (a b : Allele) (t : Trimmed) : Type 0 where

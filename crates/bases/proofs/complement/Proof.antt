@@ -1,9 +1,9 @@
--- `sequences::complement` meets its contract: an arm for each base, and one for any other byte. Assumes nothing.
+-- `bases::complement` meets its contract: an arm for each base, and one for any other byte. Assumes nothing.
 use borrow.Author.Needs.{needs}
 use borrow.Author.Tests.{ne-eqb}
 use Rattle.definition.specs.Bases.{complement}
-use Rattle.sequences.proofs.complement.Statement.{statement}
-use Rattle.sequences.proofs.complement.Tie as tie
+use Rattle.bases.proofs.complement.Statement.{statement}
+use Rattle.bases.proofs.complement.Tie as tie
 
 returns : tie.Need-returns
 unfolding complement

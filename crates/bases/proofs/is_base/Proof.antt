@@ -1,8 +1,8 @@
--- `sequences::is_base` meets its contract: its four tests are the definition's. Assumes nothing.
+-- `bases::is_base` meets its contract: its four tests are the definition's. Assumes nothing.
 use mathlib.Core.Path.{refl}
 use Rattle.definition.specs.Bases.{isBase}
-use Rattle.sequences.proofs.is_base.Statement.{statement}
-use Rattle.sequences.proofs.is_base.Tie as tie
+use Rattle.bases.proofs.is_base.Statement.{statement}
+use Rattle.bases.proofs.is_base.Tie as tie
 
 returns : tie.Need-returns
 unfolding isBase

@@ -1,4 +1,4 @@
--- `sequences::all_bases` meets its contract. The invariant: what is found so far and what the rest holds decide together. Assumes nothing.
+-- `bases::all_bases` meets its contract. The invariant: what is found so far and what the rest holds decide together. Assumes nothing.
 use Prim.Native.Nat.{_≤_, _-_}
 use mathlib.Core.Path.{_≡_}
 use mathlib.Core.Bool.{_&&_}
@@ -6,9 +6,9 @@ use native.Mathlib.Omega.{arith}
 use borrow.Author.Needs.{needs}
 use lib.ListN.{length, drop}
 use Rattle.definition.specs.Bases.{allBases}
-use Rattle.sequences.proofs.AllBases.{bases-next, bases-all}
-use Rattle.sequences.proofs.all_bases.Statement.{statement}
-use Rattle.sequences.proofs.all_bases.Tie as tie
+use Rattle.bases.proofs.AllBases.{bases-next, bases-all}
+use Rattle.bases.proofs.all_bases.Statement.{statement}
+use Rattle.bases.proofs.all_bases.Tie as tie
 
 abbrev Inv-loop : tie.InvT-loop
 Inv-loop s all₀ i₀ all i = (i ≤ length s) × ((all && allBases (drop i s)) ≡ allBases s)

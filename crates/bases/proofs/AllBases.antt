@@ -7,7 +7,7 @@ use mathlib.Core.List.{List}
 use lib.ListN.{length, drop, getD, drop-of-length-le}
 use lib.Seq.{drop-cons}
 use Rattle.definition.specs.Bases.{isBase, allBases}
-use Rattle.sequences.proofs.Gathered.{gathered-next, gathered-all}
+use Rattle.bases.proofs.Gathered.{gathered-next, gathered-all}
 
 module _ (s : List ℕ) (i : ℕ) (all : Bool) (decides : (all && allBases (drop i s)) ≡ allBases s) where
   pub bases-next : (here : Bool) → i < length s → here ≡ isBase (getD s i 0) → ((all && here) && allBases (drop (i + 1) s)) ≡ allBases s

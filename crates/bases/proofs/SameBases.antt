@@ -9,7 +9,7 @@ use lib.ListN.{length, drop, getD, drop-of-length-le}
 use lib.Seq.{drop-cons}
 use Rattle.definition.specs.Bases.{sameBases}
 use Rattle.definition.proofs.Tests.{same-equal}
-use Rattle.sequences.proofs.Gathered.{gathered-next, gathered-all}
+use Rattle.bases.proofs.Gathered.{gathered-next, gathered-all}
 
 pub not-as-long : (xs ys : List ℕ) → (length xs ≡ length ys → ⊥) → sameBases xs ys ≡ false
 not-as-long xs ys differ = go (sameBases xs ys) refl

@@ -1,11 +1,11 @@
--- `alleles::trim_front` meets its contract, by what its three calls ensure.
+-- `allele_trims::trim_front` meets its contract, by what its three calls ensure.
 -- Assumes nothing.
 use borrow.Author.Needs.{needs}
 use native.Mathlib.Omega.{arith}
 use Rattle.ends.proofs.Ends.{front, fits}
-use Rattle.alleles.proofs.Trims.{but-first}
-use Rattle.alleles.proofs.trim_front.Statement.{statement}
-use Rattle.alleles.proofs.trim_front.Tie as tie
+use Rattle.allele_trims.proofs.Trims.{but-first}
+use Rattle.allele_trims.proofs.trim_front.Statement.{statement}
+use Rattle.allele_trims.proofs.trim_front.Tie as tie
 
 common-front-requires : tie.Need-common-front-requires
 common-front-requires c κs = search needs

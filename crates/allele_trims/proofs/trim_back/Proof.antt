@@ -1,11 +1,11 @@
--- `alleles::trim_back` meets its contract, by what its three calls ensure.
+-- `allele_trims::trim_back` meets its contract, by what its three calls ensure.
 -- Assumes nothing.
 use borrow.Author.Needs.{needs}
 use native.Mathlib.Omega.{arith}
 use Rattle.ends.proofs.Ends.{back, fits}
-use Rattle.alleles.proofs.Trims.{but-last}
-use Rattle.alleles.proofs.trim_back.Statement.{statement}
-use Rattle.alleles.proofs.trim_back.Tie as tie
+use Rattle.allele_trims.proofs.Trims.{but-last}
+use Rattle.allele_trims.proofs.trim_back.Statement.{statement}
+use Rattle.allele_trims.proofs.trim_back.Tie as tie
 
 common-back-requires : tie.Need-common-back-requires
 common-back-requires c κs = search needs

@@ -1,0 +1,5 @@
+pub mod AllBases
+pub mod Gathered
+pub mod ReverseComplement
+pub mod SameBases
+pub mod Unique
