@@ -1,6 +1,6 @@
 // The piece of a range by rows 12 to 15, over an exon table in order.
 ghost use mathlib.Core.Path.{_≡_};
-ghost use Prim.Native.Nat.{_<_, min, max};
+ghost use Prim.Native.Nat.{_<_, max};
 ghost use Rattle.definition.specs.declared.Bound.the-variants.{At};
 ghost use Rattle.definition.specs.declared.PieceFound.the-variants.{InPiece};
 ghost use Rattle.definition.specs.Piece.{exonsIn, piecesOf, exonHolding, exonPiece, cutAt, wholePiece, transcriptPiece, pieceFor};
@@ -63,12 +63,6 @@ fn exon_piece(first: ExonFound, last: ExonFound) -> PieceFound
     PieceFound::InPiece(Piece { left, right })
 }
 
-fn lesser(a: usize, b: usize) -> usize
-    ensures { λ r. ⌜ r ≡ min a b ⌝ }
-{
-    if a <= b { a } else { b }
-}
-
 fn greater(a: usize, b: usize) -> usize
     ensures { λ r. ⌜ r ≡ max a b ⌝ }
 {
@@ -82,7 +76,7 @@ fn cut_piece(c: usize, start: Zero, end: Zero, piece: Piece) -> PieceFound
     let left = piece.left;
     let right = piece.right;
     if end.0 <= c {
-        let cut = Zero(lesser(right.0, c));
+        let cut = Zero(counts::least(right.0, c));
         return PieceFound::InPiece(Piece { left, right: cut });
     }
     if c <= start.0 {

@@ -5,12 +5,12 @@ use Rattle.definition.specs.Piece.{cutAt}
 use Rattle.boundary.proofs.cut_piece.Statement.{statement}
 use Rattle.boundary.proofs.cut_piece.Tie as tie
 
-lesser-requires : tie.Need-lesser-requires
-lesser-requires c κs = search needs
+least-requires : tie.Need-least-requires
+least-requires c κs = search needs
 
 returns : tie.Need-returns
 unfolding cutAt
-returns c = simp (le-leb _ _ (c .before .if1 .taken), c .lesser .ensures)
+returns c = simp (le-leb _ _ (c .before .if1 .taken), c .least .ensures)
 
 greater-requires : tie.Need-greater-requires
 greater-requires c κs = search needs
@@ -24,4 +24,4 @@ unfolding cutAt
 returns-3 c = simp (lt-leb _ _ (c .before .before .if1 .left), lt-leb _ _ (c .if2 .left))
 
 pub cut-piece-spec : {M : Type 1} → statement M
-cut-piece-spec = tie.close (tie.spec lesser-requires returns greater-requires returns-2 returns-3)
+cut-piece-spec = tie.close (tie.spec least-requires returns greater-requires returns-2 returns-3)
