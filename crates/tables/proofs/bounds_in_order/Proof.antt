@@ -24,23 +24,23 @@ enum-known-cds-end c = search needs
 
 returns : tie.Need-returns
 unfolding boundsInOrder
-returns c = cc
+returns c = rw (c .enum-told .given .1)
 
 returns-2 : tie.Need-returns-2
 unfolding boundsInOrder
-returns-2 c = cc
+returns-2 c = rw (c .enum-told2 .given .1)
 
 returns-3 : tie.Need-returns-3
 unfolding boundsInOrder
-returns-3 c = cc
+returns-3 c = rw (c .before .before .before .cds-start .given .1, c .enum-told3 .given .1)
 
 returns-4 : tie.Need-returns-4
 unfolding boundsInOrder
-returns-4 c = cc
+returns-4 c = rw (c .before .before .before .cds-start .given .1, c .enum-told4 .given .1)
 
 returns-5 : tie.Need-returns-5
 unfolding boundsInOrder
-returns-5 c = cc
+returns-5 c = rw (c .before .before .before .before .cds-start .given .1, c .before .cds-end .given .1)
 
 pub bounds-in-order-spec : {M : Type 1} → statement M
 bounds-in-order-spec =

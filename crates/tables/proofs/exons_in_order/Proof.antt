@@ -25,12 +25,12 @@ exon-at-requires c κs = omega arith
 returns : tie.Need-returns Inv-loop μ-loop
 returns c =
     let turn = c .before in
-    starts-early _ _ _ _ _ (turn .exon-at .ensures) (c .if1 .taken) ∙ turn .before .before .loop .inv .1
+    starts-early _ (turn .before .before .loop .before) (turn .exon-at .result) _ _ (turn .exon-at .ensures) (omega arith) ∙ turn .before .before .loop .inv .1
 
 returns-2 : tie.Need-returns-2 Inv-loop μ-loop
 returns-2 c =
     let turn = c .before .before in
-    ends-early _ _ _ _ _ (turn .exon-at .ensures) (c .before .if1 .left) (c .if2 .taken) ∙ turn .before .before .loop .inv .1
+    ends-early _ (turn .before .before .loop .before) (turn .exon-at .result) _ _ (turn .exon-at .ensures) (omega arith) (omega arith) ∙ turn .before .before .loop .inv .1
 
 add-i : tie.Need-add-i Inv-loop μ-loop
 add-i c = omega arith
@@ -41,7 +41,7 @@ loop-less c = omega arith
 loop-again : tie.Need-loop-again Inv-loop μ-loop
 loop-again c =
     let turn = c .before .before in
-    (omega arith, sym (goes-on _ _ _ _ _ (turn .exon-at .ensures) (c .before .if1 .left) (c .if2 .left)) ∙ turn .before .before .loop .inv .1)
+    (omega arith, sym (goes-on _ (turn .before .before .loop .before) (turn .exon-at .result) _ _ (turn .exon-at .ensures) (omega arith) (omega arith)) ∙ turn .before .before .loop .inv .1)
 
 returns-3 : tie.Need-returns-3 Inv-loop μ-loop
 returns-3 c = rw (no-more (c .before .before .before .args .table .now) (c .before .loop .i) (c .loop-test .left)) at (c .before .loop .inv .1)
