@@ -10,8 +10,8 @@ use Rattle.definition.specs.declared.Outcome as definition-outcome
 use Rattle.definition.specs.Verdict.{verdict}
 use Rattle.definition.specs.Reply.{Met, written}
 use Rattle.text.specs.Text.{partOf}
-use Rattle.inputs.specs.declared.Exons.{Exons}
-use Rattle.inputs.specs.declared.Exons.the-variants.{Table, BadPair, TooMany}
+use Rattle.exon_lists.specs.declared.Exons.{Exons}
+use Rattle.exon_lists.specs.declared.Exons.the-variants.{Table, BadPair, TooMany}
 use Rattle.requests.specs.declared.Asked.{Asked}
 use Rattle.requests.specs.declared.Asked.the-variants.{Whole, Broken}
 use Rattle.requests.specs.declared.Fault.{Fault}

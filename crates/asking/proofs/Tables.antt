@@ -13,11 +13,11 @@ use Rattle.text.specs.Text.{partOf, foundAt, wordAt}
 use Rattle.decimals.specs.Decimal.{decimalOf}
 use Rattle.decimals.specs.declared.Number.{Number}
 use Rattle.decimals.specs.declared.Number.the-variants.{Is, Bad}
-use Rattle.text.specs.Laid.{laidAt}
-use Rattle.text.proofs.Laid.{length-laid}
-use Rattle.inputs.specs.declared.Exons.{Exons}
-use Rattle.inputs.specs.declared.Exons.the-variants.{Table, BadPair, TooMany}
-use Rattle.inputs.specs.Exons.{Pairs, fourBytes, bothNumbers, pairBytes, pairCame, pairPut, goingOn, pairsBehind, pairsOf, partsAt}
+use Rattle.exon_lists.specs.Laid.{laidAt}
+use Rattle.exon_lists.proofs.Laid.{length-laid}
+use Rattle.exon_lists.specs.declared.Exons.{Exons}
+use Rattle.exon_lists.specs.declared.Exons.the-variants.{Table, BadPair, TooMany}
+use Rattle.exon_lists.specs.Exons.{Pairs, fourBytes, bothNumbers, pairBytes, pairCame, pairPut, goingOn, pairsBehind, pairsOf, partsAt}
 use Rattle.requests.specs.Request.{noWord}
 use Rattle.asking.specs.Reached.{exonsAt}
 

@@ -8,14 +8,14 @@ use Rattle.definition.specs.Request as definition
 use Rattle.definition.specs.Verdict.{verdict}
 use Rattle.definition.specs.Reply.{outcomeOf, referenceOut, alternativeOut, written}
 use Rattle.text.specs.Text.{wordAt}
-use Rattle.inputs.specs.declared.Exons as inputs
-use Rattle.inputs.specs.declared.Exons.the-variants.{Table, BadPair, TooMany}
+use Rattle.exon_lists.specs.declared.Exons as exon-lists
+use Rattle.exon_lists.specs.declared.Exons.the-variants.{Table, BadPair, TooMany}
 use Rattle.requests.specs.declared.Asked.{Asked}
 use Rattle.requests.specs.declared.Asked.the-variants.{Whole, Broken}
 use Rattle.requests.specs.declared.Interval.{Interval}
 use Rattle.requests.specs.declared.Interval.the-variants.{Nowhere, Between}
 use Rattle.requests.specs.declared.Request.{Request}
-use Rattle.inputs.specs.Exons.{Pairs, pairsOf}
+use Rattle.exon_lists.specs.Exons.{Pairs, pairsOf}
 use Rattle.requests.specs.Request.{noWord, noEdit}
 use Rattle.requests.specs.Options.{requestOf}
 use Rattle.problems.specs.declared.Problem as problems
@@ -38,7 +38,7 @@ abbrev pub exonsAt : List ℕ → ℕ → Pairs
 exonsAt text word = cond (eqb word noWord) (record { came = Table 0; bytes = [] }) (pairsOf (wordAt text word))
 
 -- a request goes on with its exons, if they are pairs
-abbrev pub withExons : inputs.Exons → definition.Request → Came
+abbrev pub withExons : exon-lists.Exons → definition.Request → Came
 withExons (Table size) request = handed request
 withExons BadPair request = stopped BadExons
 withExons TooMany request = stopped TooManyExons

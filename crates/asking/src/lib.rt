@@ -2,10 +2,10 @@
 // name is read by the caller, who asks for its path and lends its bytes.
 ghost use mathlib.Core.Path.{_≡_};
 ghost use lib.ListN.{length};
-ghost use Rattle.text.specs.Laid.{laidAt};
+ghost use Rattle.exon_lists.specs.Laid.{laidAt};
 ghost use Rattle.asking.specs.Reached.{Answers, exonsAt, pathOf, onTarget, onRange, onWords};
 use definition::Outcome;
-use inputs::Exons;
+use exon_lists::Exons;
 use problems::Problem;
 use requests::Asked;
 use requests::Interval;
@@ -27,7 +27,7 @@ fn exons_at(text: &[u8], word: usize, table: &mut [u8]) -> Exons
     if word == requests::NO_WORD {
         return Exons::Table(0);
     }
-    inputs::read_exons(text::word(text, word), table)
+    exon_lists::read_exons(text::word(text, word), table)
 }
 
 // A request from a start to an end, whose target is read.

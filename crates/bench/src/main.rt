@@ -74,9 +74,9 @@ fn put_answer(
 ) -> usize {
     let mut space = [0u8; 66560];
     let words: &mut [u8] = &mut space;
-    let named = lines::expand(b"--target CAAATGGTACCA ", 0, words, 0);
-    let filled = lines::expand(asked, 0, words, named);
-    let size = lines::push(words, filled, 0);
+    let named = runs::expand(b"--target CAAATGGTACCA ", 0, words, 0);
+    let filled = runs::expand(asked, 0, words, named);
+    let size = terminal::put_byte(words, filled, 0);
     put_reached_in(
         answer,
         answer_size,
@@ -90,7 +90,7 @@ fn put_answer(
 fn agrees(answer: &[u8], expected: &[u8]) -> bool {
     let mut space = [0u8; 4096];
     let text: &mut [u8] = &mut space;
-    let size = lines::expand(expected, b' ', text, 0);
+    let size = runs::expand(expected, b' ', text, 0);
     check::same(answer, text::part(text, 0, size))
 }
 

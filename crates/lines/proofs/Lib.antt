@@ -1,6 +1,2 @@
 -- What the proofs share. Assumes nothing.
-pub mod Putting
-pub mod Digits
-pub mod Marks
-pub mod Expanding
 pub mod Unique

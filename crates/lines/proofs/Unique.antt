@@ -5,8 +5,6 @@ use Rattle.definition.proofs.Fixes.{Fixes}
 use Rattle.lines.proofs.field.Reads as field
 use Rattle.lines.proofs.next_field.Reads as next-field
 use Rattle.lines.proofs.next_row.Reads as next-row
-use Rattle.lines.proofs.push.Reads as push
-use Rattle.lines.proofs.expand.Reads as expand
 
 -- every byte of a field
 pub field-one : Fixes (λ κs x at. now x) field.Post
@@ -17,16 +15,3 @@ next-field-one κs a x y atX atY p q = p ∙ sym q
 
 pub next-row-one : Fixes (λ κs x at. x) next-row.Post
 next-row-one κs a x y atX atY p q = p .0 ∙ sym (q .0)
-
--- the size, and every byte of the text
-pub push-one-size : Fixes (λ κs x at. x) push.Post
-push-one-size κs a x y atX atY p q = p .ends ∙ sym (q .ends)
-
-pub push-one-text : Fixes (λ κs x at. now (at .0)) push.Post
-push-one-text κs a x y atX atY p q = p .holds ∙ sym (q .holds)
-
-pub expand-one-size : Fixes (λ κs x at. x) expand.Post
-expand-one-size κs a x y atX atY p q = p .ends ∙ sym (q .ends)
-
-pub expand-one-text : Fixes (λ κs x at. now (at .1 .1 .0)) expand.Post
-expand-one-text κs a x y atX atY p q = p .holds ∙ sym (q .holds)

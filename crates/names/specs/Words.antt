@@ -1,5 +1,5 @@
 -- The words of the command line and what each means: a table for each kind of word. Assumes nothing.
-use Prim.Native.Nat.{ℕ}
+use Prim.Native.Nat.{ℕ, zero, suc, _+_}
 use Prim.Native.String.{String}
 use mathlib.Core.Bool.{cond}
 use mathlib.Core.List.{List, [], _∷_}
@@ -15,19 +15,7 @@ unfoldable pub meaning : {A : Type 0} → List (String × A) → A → List ℕ 
 meaning [] other word = other
 meaning (row ∷ rows) other word = cond (sameBases word (ascii (row .0))) (row .1) (meaning rows other word)
 
--- the options that say what the target is
-abbrev pub targetOptions : List (String × Name)
-targetOptions =
-    ("--target", Target)
-    ∷ ("--file", File)
-    ∷ ("--kind", Kind)
-    ∷ ("--exons", Exons)
-    ∷ ("--cds", Cds)
-    ∷ ("--cds-start", CdsStart)
-    ∷ ("--cds-end", CdsEnd)
-    ∷ []
-
--- every option
+-- the options
 abbrev pub options : List (String × Name)
 options =
     ("--edit", Edit)
@@ -35,7 +23,14 @@ options =
     ∷ ("--alt", Alternative)
     ∷ ("--direction", Direction)
     ∷ ("--window", Window)
-    ∷ targetOptions
+    ∷ ("--target", Target)
+    ∷ ("--file", File)
+    ∷ ("--kind", Kind)
+    ∷ ("--exons", Exons)
+    ∷ ("--cds", Cds)
+    ∷ ("--cds-start", CdsStart)
+    ∷ ("--cds-end", CdsEnd)
+    ∷ []
 
 abbrev pub kinds : List (String × Number)
 kinds = ("open", Is 0) ∷ ("transcript", Is 1) ∷ ("crossing", Is 2) ∷ []
@@ -57,3 +52,17 @@ editCode = meaning edits Bad
 
 abbrev pub directionCode : List ℕ → Number
 directionCode = meaning directions Bad
+
+-- which of some words a word is, counted from a number on
+unfoldable pub placeIn : ℕ → List (List ℕ) → List ℕ → Number
+placeIn n [] word = Bad
+placeIn n (this ∷ words) word = cond (sameBases word this) (Is n) (placeIn (n + 1) words word)
+
+-- what a row of a table says, by its number, which counts from 0; something else where there is no such row
+unfoldable pub rowAt : {A : Type 0} → List (String × A) → A → ℕ → A
+rowAt [] other n = other
+rowAt (row ∷ rows) other zero = row .1
+rowAt (row ∷ rows) other (suc n) = rowAt rows other n
+
+abbrev pub optionAt : ℕ → Name
+optionAt = rowAt options Unknown

@@ -1,7 +1,10 @@
 // The words of the command line: names of options, and the codes of kinds, edits and directions by their words.
 ghost use mathlib.Core.Path.{_≡_};
+ghost use Prim.Native.Nat.{_<_};
+ghost use lib.ListN.{length};
 ghost use Rattle.definition.specs.Bases.{sameBases};
-ghost use Rattle.names.specs.Words.{targetOptions, meaning, nameOf, kindCode, editCode, directionCode};
+ghost use Rattle.text.specs.Text.{partsAt};
+ghost use Rattle.names.specs.Words.{placeIn, optionAt, nameOf, kindCode, editCode, directionCode};
 use decimals::Number;
 
 // The options, by name.
@@ -28,100 +31,86 @@ fn is(word: &[u8], this: &[u8]) -> bool
     check::same(word, this)
 }
 
-// The options that say what the target is.
-fn target_name(word: &[u8]) -> Name
-    ensures { λ r. ⌜ r ≡ meaning targetOptions Name.Unknown (now (word .entry)) ⌝ }
+// The number of the line that a word is, which counts from 0.
+fn line_of(word: &[u8], lines: &[u8]) -> Number
+    requires { ⌜ length (now lines) < 65536 ⌝ }
+    ensures { λ r. ⌜ r ≡ placeIn 0 (partsAt 10 (now (lines .entry))) (now (word .entry)) ⌝ }
 {
-    if is(word, b"--target") {
-        return Name::Target;
+    let mut from = 0;
+    let mut place: u32 = 0;
+    while from <= lines.len() {
+        let end = text::find(lines, from, b'\n');
+        if is(word, text::part(lines, from, end)) {
+            return Number::Is(place);
+        }
+        if end == lines.len() {
+            return Number::Bad;
+        }
+        from = end + 1;
+        place += 1;
     }
-    if is(word, b"--file") {
-        return Name::File;
-    }
-    if is(word, b"--kind") {
-        return Name::Kind;
-    }
-    if is(word, b"--exons") {
-        return Name::Exons;
-    }
-    if is(word, b"--cds") {
-        return Name::Cds;
-    }
-    if is(word, b"--cds-start") {
-        return Name::CdsStart;
-    }
-    if is(word, b"--cds-end") {
-        return Name::CdsEnd;
-    }
-    Name::Unknown
+    Number::Bad
 }
 
-// Every option.
+// The options in the order of their lines below.
+fn option_at(place: u32) -> Name
+    ensures { λ r. ⌜ r ≡ optionAt place ⌝ }
+{
+    match place {
+        0 => Name::Edit,
+        1 => Name::Range,
+        2 => Name::Alternative,
+        3 => Name::Direction,
+        4 => Name::Window,
+        5 => Name::Target,
+        6 => Name::File,
+        7 => Name::Kind,
+        8 => Name::Exons,
+        9 => Name::Cds,
+        10 => Name::CdsStart,
+        11 => Name::CdsEnd,
+        _ => Name::Unknown,
+    }
+}
+
 pub fn name_of(word: &[u8]) -> Name
     ensures { λ r. ⌜ r ≡ nameOf (now (word .entry)) ⌝ }
 {
-    if is(word, b"--edit") {
-        return Name::Edit;
+    match line_of(
+        word,
+        b"--edit
+--range
+--alt
+--direction
+--window
+--target
+--file
+--kind
+--exons
+--cds
+--cds-start
+--cds-end",
+    ) {
+        Number::Is(place) => option_at(place),
+        Number::Bad => Name::Unknown,
     }
-    if is(word, b"--range") {
-        return Name::Range;
-    }
-    if is(word, b"--alt") {
-        return Name::Alternative;
-    }
-    if is(word, b"--direction") {
-        return Name::Direction;
-    }
-    if is(word, b"--window") {
-        return Name::Window;
-    }
-    target_name(word)
 }
 
+// The codes of kinds, edits and directions count from 0 in the order of their words.
 pub fn kind_code(word: &[u8]) -> Number
     ensures { λ r. ⌜ r ≡ kindCode (now (word .entry)) ⌝ }
 {
-    if is(word, b"open") {
-        return Number::Is(0);
-    }
-    if is(word, b"transcript") {
-        return Number::Is(1);
-    }
-    if is(word, b"crossing") {
-        return Number::Is(2);
-    }
-    Number::Bad
+    line_of(word, b"open\ntranscript\ncrossing")
 }
 
 pub fn edit_code(word: &[u8]) -> Number
     ensures { λ r. ⌜ r ≡ editCode (now (word .entry)) ⌝ }
 {
-    if is(word, b"ins") {
-        return Number::Is(0);
-    }
-    if is(word, b"dup") {
-        return Number::Is(1);
-    }
-    if is(word, b"del") {
-        return Number::Is(2);
-    }
-    if is(word, b"replace") {
-        return Number::Is(3);
-    }
-    if is(word, b"inv") {
-        return Number::Is(4);
-    }
-    Number::Bad
+    line_of(word, b"ins\ndup\ndel\nreplace\ninv")
 }
 
 pub fn direction_code(word: &[u8]) -> Number
     ensures { λ r. ⌜ r ≡ directionCode (now (word .entry)) ⌝ }
 {
-    if is(word, b"right") {
-        return Number::Is(0);
-    }
-    if is(word, b"left") {
-        return Number::Is(1);
-    }
-    Number::Bad
+    line_of(word, b"right\nleft")
 }

@@ -35,9 +35,9 @@ fn put_answer(page: &mut [u8], used: usize, row: &[u8]) -> usize
 {
     let mut space = [0u8; 256];
     let words: &mut [u8] = &mut space;
-    let named = lines::expand(b"--target CAAATGGTACCA ", 0, words, 0);
-    let filled = lines::expand(row, 0, words, named);
-    let size = lines::push(words, filled, 0);
+    let named = runs::expand(b"--target CAAATGGTACCA ", 0, words, 0);
+    let filled = runs::expand(row, 0, words, named);
+    let size = terminal::put_byte(words, filled, 0);
     put_reached(page, used, text::part(words, 0, size))
 }
 

@@ -3,7 +3,7 @@
 ghost use Prim.Native.Nat.{_≤_};
 ghost use lib.ListN.{length};
 use libc::STDOUT_FILENO;
-use records::Compared;
+use replays::Compared;
 
 // A record that was replayed: whether the file has the whole of it, whether its answer is the stored one, what was answered, and the place
 // behind it.
@@ -73,7 +73,7 @@ fn replay(file: &[u8], at: usize, number: u32) -> Replayed
             to: at,
         };
     }
-    let compared = records::replayed(file, request, stored);
+    let compared = replays::replayed(file, request, stored);
     let same = agrees(compared);
     if !same {
         say_difference(number, compared);

@@ -2,7 +2,6 @@
 use mathlib.Core.Path.{sym, _∙_}
 use Rattle.definition.proofs.Fixes.{Fixes}
 use Rattle.records.proofs.number.Reads as number
-use Rattle.records.proofs.replayed.Reads as replayed
 use Rattle.records.proofs.request_at.Reads as request-at
 use Rattle.records.proofs.stored_at.Reads as stored-at
 
@@ -14,6 +13,3 @@ request-at-one κs a x y atX atY p q = p .0 ∙ sym (q .0)
 
 pub stored-at-one : Fixes (λ κs x at. x) stored-at.Post
 stored-at-one κs a x y atX atY p q = p .0 ∙ sym (q .0)
-
-pub replayed-one : Fixes (λ κs x at. x) replayed.Post
-replayed-one κs a x y atX atY p q = p ∙ sym q

@@ -8,17 +8,17 @@ use lib.Dec.{leb}
 use lib.IntN.{ℤ}
 use mir.Syntax.{w32, w64}
 use mir.Val.{toZ}
-use lib.ListN.{length, getD}
-use Rattle.definition.specs.Piece.{little}
+use lib.ListN.{length}
+use Rattle.tables.specs.Numbers.{numberAt}
 use Rattle.records.specs.declared.Part.{Part}
 use Rattle.records.specs.declared.Numbers.{Numbers}
 use Rattle.records.specs.declared.Request.{Request}
 use Rattle.records.specs.declared.Stored.{Stored}
 
 -- the number at a place; 0 where the file ends before it does
-unfoldable pub numberAt : List ℕ → ℕ → ℕ
-numberAt file at =
-    cond (leb (at + 4) (length file)) (little (getD file at 0) (getD file (at + 1) 0) (getD file (at + 2) 0) (getD file (at + 3) 0)) 0
+unfoldable pub storedNumber : List ℕ → ℕ → ℕ
+storedNumber file at =
+    cond (leb (at + 4) (length file)) (numberAt file at) 0
 
 -- 32 bits, and the halves of 64, as a number with a sign
 abbrev pub signedOf : ℕ → ℤ
@@ -34,21 +34,21 @@ pickPart false a b = b
 -- the part whose length stands at a place, where the file has the whole of it
 unfoldable pub partAt : List ℕ → ℕ → Part
 partAt file at =
-    pickPart (leb (at + 4 + numberAt file at) (length file))
-    (record { whole = true; from = at + 4; to = at + 4 + numberAt file at })
+    pickPart (leb (at + 4 + storedNumber file at) (length file))
+    (record { whole = true; from = at + 4; to = at + 4 + storedNumber file at })
     (record { whole = false; from = 0; to = 0 })
 
 -- the numbers of a request, by where its target, its exon table and its alternative end
 abbrev pub numbersAt : List ℕ → ℕ → ℕ → ℕ → Numbers
 numbersAt file target exons alternative = record {
-  kind = numberAt file target;
-  «cds_start» = signedLongOf (numberAt file exons) (numberAt file (exons + 4));
-  «cds_end» = signedLongOf (numberAt file (exons + 8)) (numberAt file (exons + 12));
-  start = signedOf (numberAt file (exons + 16));
-  end = signedOf (numberAt file (exons + 20));
-  edit = numberAt file (exons + 24);
-  direction = numberAt file alternative;
-  window = numberAt file (alternative + 4);
+  kind = storedNumber file target;
+  «cds_start» = signedLongOf (storedNumber file exons) (storedNumber file (exons + 4));
+  «cds_end» = signedLongOf (storedNumber file (exons + 8)) (storedNumber file (exons + 12));
+  start = signedOf (storedNumber file (exons + 16));
+  end = signedOf (storedNumber file (exons + 20));
+  edit = storedNumber file (exons + 24);
+  direction = storedNumber file alternative;
+  window = storedNumber file (alternative + 4);
 }
 
 abbrev pub requestOf : List ℕ → Part → Part → Part → Request
@@ -71,11 +71,11 @@ requestAt file at =
 abbrev pub storedOf : List ℕ → ℕ → Part → Part → Stored
 storedOf file at reference alternative = record {
   whole = reference .whole && alternative .whole;
-  refusal = numberAt file at;
-  class = numberAt file (at + 4);
-  start = numberAt file (at + 8);
-  end = numberAt file (at + 12);
-  probes = numberAt file (at + 16);
+  refusal = storedNumber file at;
+  class = storedNumber file (at + 4);
+  start = storedNumber file (at + 8);
+  end = storedNumber file (at + 12);
+  probes = storedNumber file (at + 16);
   reference = reference;
   alternative = alternative;
   to = alternative .to;

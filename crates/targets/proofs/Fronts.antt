@@ -11,9 +11,9 @@ use lib.Seq.{take-at, take-all}
 use borrow.Author.Tests.{le-ltb}
 use Rattle.text.specs.Text.{partOf}
 use Rattle.definition.specs.Reply.{written}
-use Rattle.inputs.specs.declared.Letters.{Letters}
-use Rattle.inputs.specs.declared.Letters.the-variants.{Read, SecondRecord, TooLong}
-use Rattle.inputs.specs.Letters.{isBlank, recordEnd, recordOf, lettersOf, overflows, keptIn, behindRecord, lettersRead, lettersLaid}
+use Rattle.letters.specs.declared.Letters.{Letters}
+use Rattle.letters.specs.declared.Letters.the-variants.{Read, SecondRecord, TooLong}
+use Rattle.letters.specs.Letters.{isBlank, recordEnd, recordOf, lettersOf, overflows, keptIn, behindRecord, lettersRead, lettersLaid}
 use Rattle.targets.specs.declared.Target.{Target}
 use Rattle.targets.specs.declared.Target.the-variants as came
 use Rattle.targets.specs.Sources.{Source, found, absent, cameTo, targetOf, laid, lettersIn}

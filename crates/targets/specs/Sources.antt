@@ -4,9 +4,9 @@ use mathlib.Core.Bool.{cond}
 use mathlib.Core.List.{List, []}
 use lib.Dec.{eqb}
 use Rattle.text.specs.Text.{partOf, wordAt}
-use Rattle.inputs.specs.Letters.{recordOf, lettersOf, lettersRead, lettersLaid}
-use Rattle.inputs.specs.declared.Letters as letters
-use Rattle.inputs.specs.declared.Letters.the-variants as read
+use Rattle.letters.specs.Letters.{recordOf, lettersOf, lettersRead, lettersLaid}
+use Rattle.letters.specs.declared.Letters as letters
+use Rattle.letters.specs.declared.Letters.the-variants as read
 use Rattle.requests.specs.Request.{noWord}
 use Rattle.problems.specs.declared.Unread as problems
 use Rattle.problems.specs.declared.Unread.the-variants.{Missing, Twice, Unreadable, LongFile, LongTarget, SecondRecord}

@@ -2,7 +2,7 @@
 ghost use mathlib.Core.Path.{_≡_};
 ghost use lib.ListN.{length};
 ghost use Rattle.targets.specs.Sources.{found, ofFile, sourceOf, targetOf, laid};
-use inputs::Letters;
+use letters::Letters;
 use problems::Unread;
 
 // What reading the file that the words name came to: so many bytes at the front of those that are lent, or why not.
@@ -22,7 +22,7 @@ fn read_text(text: &[u8], target: &mut [u8]) -> Target
     ensures { λ r. ⌜ r ≡ targetOf (length (now (target .entry))) (found (now (text .entry))) ⌝ }
     ensures { λ r. ⌜ now (target .exit) ≡ laid (found (now (text .entry))) (now (target .entry)) ⌝ }
 {
-    match inputs::read_letters(text, target) {
+    match letters::read_letters(text, target) {
         Letters::Read(size) => Target::Letters(size),
         Letters::SecondRecord => Target::Unread(Unread::SecondRecord),
         Letters::TooLong => Target::Unread(Unread::LongTarget),

@@ -7,10 +7,10 @@ use native.Mathlib.Numerals.{add-one}
 use native.Mathlib.Nat.{add-zero, lt-of-not-le}
 use native.Mathlib.Decide.{decLe}
 use native.Mathlib.Omega.{arith}
-use lib.ListN.{length, length-set, set, take, getD, drop, drop-of-length-le, replicate-append-replicate}
+use lib.ListN.{length, length-set, set, take, getD, drop, drop-of-length-le, replicate, replicate-append-replicate}
 use borrow.Author.Tests.{lt-ltb, le-ltb}
 use lib.Seq.{drop-cons, sets, sets-eq}
-use Rattle.terminal.specs.Page.{Page, page, withByte, withText, Put, Added, spaces, gap, column}
+use Rattle.terminal.specs.Page.{Page, page, withByte, withText, Put, Added, gap, column}
 
 joined : (p : Page) (s t : List ℕ) → withText (withText p s) t ≡ withText p (s ++ t)
 unfolding withText
@@ -57,9 +57,9 @@ none = record { held = refl }
 pub same-text : {before s t after : List ℕ} {used count : ℕ} → s ≡ t → Put before used s after count → Put before used t after count
 same-text e put = rw (← e) put
 
-pub space-more : (i : ℕ) {before bytes after : List ℕ} {used count end : ℕ}
-    → Put before used (spaces i) bytes count → Put bytes count (32 ∷ []) after end → Put before used (spaces (i + 1)) after end
-space-more i first second = same-text (replicate-append-replicate i 1 32) (then first second)
+pub run-more : (i byte : ℕ) {before bytes after : List ℕ} {used count end : ℕ}
+    → Put before used (replicate i byte) bytes count → Put bytes count (byte ∷ []) after end → Put before used (replicate (i + 1) byte) after end
+run-more i byte first second = same-text (replicate-append-replicate i 1 byte) (then first second)
 
 -- a page that is full stays as it is
 full-stays : (p : Page) (text : List ℕ) → length (p .bytes) ≤ p .used → withText p text ≡ p

@@ -2,7 +2,8 @@
 ghost use mathlib.Core.Path.{_≡_};
 ghost use mathlib.Core.List.{[], _∷_};
 ghost use Prim.Native.Nat.{_-_};
-ghost use Rattle.terminal.specs.Page.{Put, decimalText, spaces, gap};
+ghost use lib.ListN.{replicate};
+ghost use Rattle.terminal.specs.Page.{Put, decimalText, gap};
 
 // A byte goes on the page behind those that are used, unless it is full. Each function that puts a text gives back how many are used then.
 pub fn put_byte(page: &mut [u8], used: usize, byte: u8) -> usize
@@ -36,13 +37,14 @@ pub fn put_number(page: &mut [u8], used: usize, number: usize) -> usize
     put(page, used, &digits[..size])
 }
 
-fn put_spaces(page: &mut [u8], used: usize, size: usize) -> usize
-    ensures { λ r. ⌜ Put (now (page .entry)) used (spaces size) (now (page .exit)) r ⌝ }
+// So many of one byte.
+pub fn put_run(page: &mut [u8], used: usize, byte: u8, size: usize) -> usize
+    ensures { λ r. ⌜ Put (now (page .entry)) used (replicate size byte) (now (page .exit)) r ⌝ }
 {
     let mut count = used;
     let mut i = 0;
     while i < size {
-        count = put_byte(page, count, b' ');
+        count = put_byte(page, count, byte);
         i += 1;
     }
     count
@@ -66,5 +68,5 @@ pub fn put_gap(page: &mut [u8], used: usize, from: usize, width: usize) -> usize
     if size == 0 {
         return put_byte(page, used, b' ');
     }
-    put_spaces(page, used, size)
+    put_run(page, used, b' ', size)
 }

@@ -19,6 +19,15 @@ foundAt text from byte = cond (ltb (length text) from) (length text) (from + ind
 abbrev pub afterFound : List ℕ → ℕ → ℕ → ℕ
 afterFound text from byte = min (foundAt text from byte + 1) (length text)
 
+abbrev pub onFirst : ℕ → List (List ℕ) → List (List ℕ)
+onFirst x [] = (x ∷ []) ∷ []
+onFirst x (part ∷ parts) = (x ∷ part) ∷ parts
+
+-- the parts of a list that a byte parts
+unfoldable pub partsAt : ℕ → List ℕ → List (List ℕ)
+partsAt byte [] = [] ∷ []
+partsAt byte (x ∷ xs) = cond (eqb x byte) ([] ∷ partsAt byte xs) (onFirst x (partsAt byte xs))
+
 -- the word that begins at an index, up to the byte 0 that ends it
 abbrev pub wordAt : List ℕ → ℕ → List ℕ
 wordAt text from = partOf text from (foundAt text from 0)

@@ -1,6 +1,6 @@
 -- `asking::exons_at` meets its contract: by whether the word is given. Assumes nothing.
 use mathlib.Core.Path.{refl, sym}
-use Rattle.text.proofs.Laid.{laid-nothing}
+use Rattle.exon_lists.proofs.Laid.{laid-nothing}
 use Rattle.asking.proofs.Tables.{no-exons, some-exons}
 use borrow.Author.Needs.{needs}
 use Rattle.asking.proofs.exons_at.Statement.{statement}

@@ -1,98 +1,44 @@
--- `names::name_of` meets its contract: each word is a row of the table, and the rest of the rows are those of `target_name`. Assumes nothing.
+-- `names::name_of` meets its contract: the words are the table's, in its order, and a row says what its word means. Assumes nothing.
+use mathlib.Core.Path.{_∙_}
 use borrow.Author.Needs.{needs}
-use Rattle.names.proofs.Rows.{here, further}
+use Rattle.text.specs.Text.{partsAt}
+use Rattle.names.specs.Words.{options}
+use Rattle.names.specs.declared.Name.the-variants.{Unknown}
+use Rattle.names.proofs.Rows.{wordsOf, in-row, in-none}
 use Rattle.names.proofs.name_of.Statement.{statement}
 use Rattle.names.proofs.name_of.Tie as tie
 
-slice-aggregate-is : tie.Need-slice-aggregate-is
-slice-aggregate-is c = search needs
+slice-aggregate-line-of : tie.Need-slice-aggregate-line-of
+slice-aggregate-line-of c = search needs
 
-is-requires : tie.Need-is-requires
-is-requires c κs = search needs
+line-of-requires : tie.Need-line-of-requires
+line-of-requires c κs = search needs
+
+enum-known-place : tie.Need-enum-known-place
+enum-known-place c = search needs
+
+option-at-requires : tie.Need-option-at-requires
+option-at-requires c κs = search needs
+
+enum-told : tie.Need-enum-told
+enum-told c = search needs
 
 returns : tie.Need-returns
-returns c = here _ _ _ _ (c .before .is .ensures) (c .if1 .taken)
-
-slice-aggregate-is-2 : tie.Need-slice-aggregate-is-2
-slice-aggregate-is-2 c = search needs
-
-is-requires-2 : tie.Need-is-requires-2
-is-requires-2 c κs = search needs
+unfolding partsAt wordsOf
+returns c = c .option-at .ensures ∙ in-row options Unknown _ (c .before .before .before .before .line-of .ensures) _ (c .before .before .place .given .1)
 
 returns-2 : tie.Need-returns-2
-returns-2 c =
-    let test1 = c .before .before .before in
-    further _ _ _ _ (test1 .before .is .ensures) (test1 .if1 .left) (here _ _ _ _ (c .before .is2 .ensures) (c .if2 .taken))
-
-slice-aggregate-is-3 : tie.Need-slice-aggregate-is-3
-slice-aggregate-is-3 c = search needs
-
-is-requires-3 : tie.Need-is-requires-3
-is-requires-3 c κs = search needs
-
-returns-3 : tie.Need-returns-3
-returns-3 c =
-    let test2 = c .before .before .before in
-    let test1 = test2 .before .before .before in
-    further _ _ _ _ (test1 .before .is .ensures) (test1 .if1 .left) (further _ _ _ _ (test2 .before .is2 .ensures) (test2 .if2 .left) (here _ _ _ _ (c .before .is3 .ensures) (c .if3 .taken)))
-
-slice-aggregate-is-4 : tie.Need-slice-aggregate-is-4
-slice-aggregate-is-4 c = search needs
-
-is-requires-4 : tie.Need-is-requires-4
-is-requires-4 c κs = search needs
-
-returns-4 : tie.Need-returns-4
-returns-4 c =
-    let test3 = c .before .before .before in
-    let test2 = test3 .before .before .before in
-    let test1 = test2 .before .before .before in
-    further _ _ _ _ (test1 .before .is .ensures) (test1 .if1 .left) (further _ _ _ _ (test2 .before .is2 .ensures) (test2 .if2 .left) (further _ _ _ _ (test3 .before .is3 .ensures) (test3 .if3 .left) (here _ _ _ _ (c .before .is4 .ensures) (c .if4 .taken))))
-
-slice-aggregate-is-5 : tie.Need-slice-aggregate-is-5
-slice-aggregate-is-5 c = search needs
-
-is-requires-5 : tie.Need-is-requires-5
-is-requires-5 c κs = search needs
-
-returns-5 : tie.Need-returns-5
-returns-5 c =
-    let test4 = c .before .before .before in
-    let test3 = test4 .before .before .before in
-    let test2 = test3 .before .before .before in
-    let test1 = test2 .before .before .before in
-    further _ _ _ _ (test1 .before .is .ensures) (test1 .if1 .left) (further _ _ _ _ (test2 .before .is2 .ensures) (test2 .if2 .left) (further _ _ _ _ (test3 .before .is3 .ensures) (test3 .if3 .left) (further _ _ _ _ (test4 .before .is4 .ensures) (test4 .if4 .left) (here _ _ _ _ (c .before .is5 .ensures) (c .if5 .taken)))))
-
-target-name-requires : tie.Need-target-name-requires
-target-name-requires c κs = search needs
-
-returns-6 : tie.Need-returns-6
-returns-6 c =
-    let test5 = c .before in
-    let test4 = test5 .before .before .before in
-    let test3 = test4 .before .before .before in
-    let test2 = test3 .before .before .before in
-    let test1 = test2 .before .before .before in
-    further _ _ _ _ (test1 .before .is .ensures) (test1 .if1 .left) (further _ _ _ _ (test2 .before .is2 .ensures) (test2 .if2 .left) (further _ _ _ _ (test3 .before .is3 .ensures) (test3 .if3 .left) (further _ _ _ _ (test4 .before .is4 .ensures) (test4 .if4 .left) (further _ _ _ _ (test5 .before .is5 .ensures) (test5 .if5 .left) (c .target-name .ensures)))))
+unfolding partsAt wordsOf
+returns-2 c = in-none options Unknown _ (c .before .before .line-of .ensures) (c .enum-told .given .1)
 
 pub name-of-spec : {M : Type 1} → statement M
 name-of-spec =
     tie.close
     (tie.spec
-    slice-aggregate-is
-    is-requires
+    slice-aggregate-line-of
+    line-of-requires
+    enum-known-place
+    option-at-requires
+    enum-told
     returns
-    slice-aggregate-is-2
-    is-requires-2
-    returns-2
-    slice-aggregate-is-3
-    is-requires-3
-    returns-3
-    slice-aggregate-is-4
-    is-requires-4
-    returns-4
-    slice-aggregate-is-5
-    is-requires-5
-    returns-5
-    target-name-requires
-    returns-6)
+    returns-2)

@@ -5,12 +5,13 @@ use native.Mathlib.Omega.{arith}
 use borrow.Author.Needs.{needs}
 use lib.ListN.{length}
 use Rattle.definition.specs.Piece.{little}
-use Rattle.records.specs.Format.{numberAt}
+use Rattle.tables.specs.Numbers.{numberAt}
+use Rattle.records.specs.Format.{storedNumber}
 use Rattle.records.proofs.number.Statement.{statement}
 use Rattle.records.proofs.number.Tie as tie
 
 returns : tie.Need-returns
-unfolding numberAt
+unfolding storedNumber
 returns c =
     let args = c .before .before .args in
     rw (lt-leb (args .at + 4) (length (args .file .now)) (omega arith))
@@ -19,7 +20,7 @@ sub-if2 : tie.Need-sub-if2
 sub-if2 c = search needs
 
 returns-2 : tie.Need-returns-2
-unfolding numberAt
+unfolding storedNumber
 returns-2 c =
     let args = c .before .before .before .args in
     rw (lt-leb (args .at + 4) (length (args .file .now)) (omega arith))
@@ -76,7 +77,7 @@ add-result : tie.Need-add-result
 add-result c = search needs
 
 returns-3 : tie.Need-returns-3
-unfolding numberAt little
+unfolding storedNumber numberAt little
 returns-3 c =
     let args = c .before .before .before .before .before .before .before .before .before .before .before .args in
     rw (le-leb (args .at + 4) (length (args .file .now)) (omega arith)) (omega arith)

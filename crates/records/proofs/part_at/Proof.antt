@@ -4,7 +4,7 @@ use borrow.Author.Tests.{le-leb, lt-leb}
 use native.Mathlib.Omega.{arith}
 use borrow.Author.Needs.{needs}
 use lib.ListN.{length}
-use Rattle.records.specs.Format.{numberAt, partAt}
+use Rattle.records.specs.Format.{storedNumber, partAt}
 use Rattle.records.proofs.part_at.Statement.{statement}
 use Rattle.records.proofs.part_at.Tie as tie
 
@@ -13,7 +13,7 @@ unfolding partAt
 returns c =
     let args = c .before .before .args in
     let file = args .file .now in
-    (rw (lt-leb (args .at + 4 + numberAt file (args .at)) (length file) (omega arith)), omega arith)
+    (rw (lt-leb (args .at + 4 + storedNumber file (args .at)) (length file) (omega arith)), omega arith)
 
 sub-if2 : tie.Need-sub-if2
 sub-if2 c = search needs
@@ -23,7 +23,7 @@ unfolding partAt
 returns-2 c =
     let args = c .before .before .before .args in
     let file = args .file .now in
-    (rw (lt-leb (args .at + 4 + numberAt file (args .at)) (length file) (omega arith)), omega arith)
+    (rw (lt-leb (args .at + 4 + storedNumber file (args .at)) (length file) (omega arith)), omega arith)
 
 add-from : tie.Need-add-from
 add-from c = search needs
@@ -42,7 +42,7 @@ unfolding partAt
 returns-3 c =
     let args = c .before .before .before .before .before .args in
     let file = args .file .now in
-    (rw (lt-leb (args .at + 4 + numberAt file (args .at)) (length file) (omega arith)), omega arith)
+    (rw (lt-leb (args .at + 4 + storedNumber file (args .at)) (length file) (omega arith)), omega arith)
 
 add-t6 : tie.Need-add-t6
 add-t6 c = search needs
@@ -52,7 +52,7 @@ unfolding partAt
 returns-4 c =
     let args = c .before .before .before .before .before .args in
     let file = args .file .now in
-    (rw (c .before .number .ensures, le-leb (args .at + 4 + numberAt file (args .at)) (length file) (omega arith)), omega arith)
+    (rw (c .before .number .ensures, le-leb (args .at + 4 + storedNumber file (args .at)) (length file) (omega arith)), omega arith)
 
 pub part-at-spec : {M : Type 1} → statement M
 part-at-spec =

@@ -26,8 +26,8 @@ returns c =
     let one : 1 ≡ max 1 (a .width - (a .used - a .from)) = omega arith in
     same-text (ap spaces one) (c .before .before .put-byte .ensures)
 
-put-spaces-requires : tie.Need-put-spaces-requires
-put-spaces-requires c κs = search needs
+put-run-requires : tie.Need-put-run-requires
+put-run-requires c κs = search needs
 
 same-length-2 : tie.Need-same-length-2
 same-length-2 c = search needs
@@ -36,7 +36,7 @@ returns-2 : tie.Need-returns-2
 returns-2 c =
     let a = c .before .before .before .before .before .before .before .before .args in
     let some : c .before .before .before .before .before .less2 .result ≡ max 1 (a .width - (a .used - a .from)) = omega arith in
-    same-text (ap spaces some) (c .before .before .put-spaces .ensures)
+    same-text (ap spaces some) (c .before .before .put-run .ensures)
 
 pub put-gap-spec : {M : Type 1} → statement M
 put-gap-spec =
@@ -47,6 +47,6 @@ put-gap-spec =
     put-byte-requires
     same-length
     returns
-    put-spaces-requires
+    put-run-requires
     same-length-2
     returns-2)

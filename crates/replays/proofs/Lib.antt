@@ -1,0 +1,4 @@
+-- What the proofs share. Assumes nothing.
+pub mod Held
+pub mod Replied
+pub mod Unique

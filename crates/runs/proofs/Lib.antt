@@ -1,0 +1,5 @@
+-- What the proofs share. Assumes nothing.
+pub mod Digits
+pub mod Marks
+pub mod Expanding
+pub mod Unique
