@@ -6,10 +6,10 @@ use mathlib.Core.Path.{_≡_, refl, sym, ap, _∙_}
 use mathlib.Core.Bool.{Bool, true, false}
 use mathlib.Core.List.{List, [], _∷_, _++_}
 use mathlib.Core.Option.{Option, none, some}
-use borrow.Author.Tests.{le-ltb, eq-eqb, ne-eqb, eqb-true, eqb-false, leb-false}
+use borrow.Author.Tests.{le-ltb, eq-eqb, ne-eqb, leb-false}
 use lib.Dec.{eqb, leb}
 use lib.ListN.{length, take, length-append}
-use Rattle.text.specs.Text.{partOf, foundAt, wordAt}
+use Rattle.text.specs.Text.{partOf, foundAt, wordAt, partsAt}
 use Rattle.decimals.specs.Decimal.{decimalOf}
 use Rattle.decimals.specs.declared.Number.{Number}
 use Rattle.decimals.specs.declared.Number.the-variants.{Is, Bad}
@@ -17,7 +17,7 @@ use Rattle.exon_lists.specs.Laid.{laidAt}
 use Rattle.exon_lists.proofs.Laid.{length-laid}
 use Rattle.exon_lists.specs.declared.Exons.{Exons}
 use Rattle.exon_lists.specs.declared.Exons.the-variants.{Table, BadPair, TooMany}
-use Rattle.exon_lists.specs.Exons.{Pairs, fourBytes, bothNumbers, pairBytes, pairCame, pairPut, goingOn, pairsBehind, pairsOf, partsAt}
+use Rattle.exon_lists.specs.Exons.{Pairs, fourBytes, bothNumbers, pairBytes, pairsBehind, pairsOf}
 use Rattle.requests.specs.Request.{noWord}
 use Rattle.asking.specs.Reached.{exonsAt}
 

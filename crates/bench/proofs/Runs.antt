@@ -1,7 +1,6 @@
 -- Rows that are run after others are run as one. Assumes nothing.
 use mathlib.Core.List.{List}
 use Prim.Native.Nat.{ℕ}
-use native.Mathlib.Omega.{arith}
 use native.Mathlib.Nat.{le-refl, le-trans}
 use Rattle.terminal.proofs.Pages.{none, adds, adds-more}
 use Rattle.bench.specs.declared.Run.{Run}

@@ -1,3 +1,2 @@
-pub mod Order
 pub mod Within
 pub mod Unique

@@ -1,12 +1,8 @@
 -- Each public contract decides its result: two results that it allows are equal. Assumes nothing.
 use mathlib.Core.Path.{sym, _∙_}
 use Rattle.definition.proofs.Fixes.{Fixes}
-use Rattle.boundary.proofs.exon_holding.Reads as exon-holding
 use Rattle.boundary.proofs.get_boundary.Reads as get-boundary
 use Rattle.boundary.proofs.piece_for.Reads as piece-for
-
-pub exon-holding-one : Fixes (λ κs x at. x) exon-holding.Post
-exon-holding-one κs a x y atX atY p q = p ∙ sym q
 
 pub get-boundary-one : Fixes (λ κs x at. x) get-boundary.Post
 get-boundary-one κs a x y atX atY p q = p ∙ sym q

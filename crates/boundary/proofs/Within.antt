@@ -23,8 +23,8 @@ use Rattle.definition.specs.declared.PieceFound.the-variants.{InPiece, NoPiece}
 use Rattle.definition.specs.Piece.{exonsIn, exonsInOrder, tablesHold, piecesOf, pieceFrom}
 use Rattle.definition.specs.Piece.{exonHolding, exonPiece, cutAt, transcriptPiece, pieceFor}
 use Rattle.definition.specs.Answer.{leavesTarget}
-use Rattle.boundary.specs.InOrder.{InOrder}
-use Rattle.boundary.proofs.Order.{exon-within}
+use Rattle.search.specs.InOrder.{InOrder}
+use Rattle.search.proofs.Order.{exon-within}
 use Rattle.definition.proofs.Tests.{and-false}
 
 -- the exons of a table that passes row 10 stand in order up to the target's end

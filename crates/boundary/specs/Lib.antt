@@ -1,1 +1,1 @@
-pub mod InOrder
+pub mod ReadInOrder

@@ -70,7 +70,7 @@ fn write_exons(table: &[u8]) {
     let exons = table.len() / 8;
     let mut i = 0;
     while i < exons {
-        write_exon(tables::exon_at(table, i));
+        write_exon(exons::exon_at(table, i));
         i += 1;
     }
 }

@@ -17,7 +17,7 @@ use Rattle.definition.specs.Answer.{Named, copyBeside, copyStart, namedInsertio
 use Rattle.definition.proofs.Tests.{and-true}
 use Rattle.definition.proofs.Meaning.{copy-fits}
 use Rattle.definition.proofs.Parts.{slice-size}
-use Rattle.classes.proofs.Copies.{copy-is}
+use Rattle.copies.proofs.Copies.{copy-is}
 use Rattle.classes.specs.Called.{calledIn, unanchored, Calls, CallsAt}
 
 abbrev written : Class → ℕ → ℕ → List ℕ → List ℕ → Named

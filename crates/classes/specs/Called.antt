@@ -1,7 +1,6 @@
 -- What the numbers of `Called` say over a target and the alternative's bases. Assumes nothing.
 use Prim.Native.Nat.{ℕ, _+_, _-_, _≤_}
 use mathlib.Core.Path.{_≡_}
-use mathlib.Core.Bool.{Bool, cond}
 use mathlib.Core.List.{List, _++_}
 use mathlib.Core.Logic.{_⊎_}
 use lib.ListN.{length, take, drop}
@@ -14,8 +13,6 @@ use Rattle.definition.specs.Answer.{Named, named}
 use Rattle.classes.specs.declared.Anchor.{Anchor}
 use Rattle.classes.specs.declared.Anchor.the-variants.{Alone, First, Last}
 use Rattle.classes.specs.declared.Called.{Called}
-use Rattle.classes.specs.declared.Beside.{Beside}
-use Rattle.classes.specs.declared.Beside.the-variants.{At, Nowhere}
 
 -- the bases of an alternative, with the base that an end rule writes beside them
 abbrev pub anchored : Anchor → List ℕ → List ℕ → List ℕ
@@ -55,10 +52,6 @@ CallsInAny target place referenceSize bases n =
 abbrev pub CallsAny : ℕ → ℕ → ℕ → Called → Type 0
 CallsAny place referenceSize count n =
     (target bases : List ℕ) → place + referenceSize ≤ length target → length bases ≡ count → CallsInAny target place referenceSize bases n
-
--- where a copy begins, if there is one
-abbrev pub found : Bool → ℕ → Beside
-found copy start = cond copy (At (record { 0 = start })) Nowhere
 
 -- the numbers of a change that no end rule has been applied to
 abbrev pub unanchored : Class → (start end referenceStart referenceSize alternativeSize : ℕ) → Called

@@ -4,24 +4,19 @@ ghost use mathlib.Core.Path.{_≡_};
 ghost use mathlib.Core.Bool.{cond};
 ghost use Prim.Native.Nat.{_+_, _<_, _≤_};
 ghost use lib.Dec.{eqb};
-ghost use lib.ListN.{length};
-ghost use lib.Seq.{slice};
-ghost use Rattle.definition.specs.Bases.{reverseComplement, sameBases};
 ghost use Rattle.definition.specs.Limits.{longestTarget, longestAllele};
-ghost use Rattle.definition.specs.Answer.{copyBeside, copyStart, isInversion};
-ghost use Rattle.definition.specs.declared.Direction.the-variants.{Rightward, Leftward};
 ghost use Rattle.definition.specs.declared.Class.the-variants.{Deletion, Replacement};
-ghost use Rattle.rotating.specs.Window.{window, Placed};
-ghost use Rattle.classes.specs.Called.{unanchored, found, CallsAt, CallsInAny, CallsAny};
+ghost use Rattle.rotating.specs.Window.{window};
+ghost use Rattle.classes.specs.Called.{unanchored, CallsAt, CallsInAny, CallsAny};
 ghost use Rattle.classes.specs.Settled.{Settled};
-use bases::complement;
-use codes::before_gap;
-use codes::one_based;
+use copies::Beside;
 use definition::Class;
 use definition::Direction;
 use definition::One;
 use definition::Piece;
 use definition::Zero;
+use positions::before_gap;
+use positions::one_based;
 
 // The base of the target that an end rule writes beside the alternative: none, the first base behind it, or the last base before it.
 pub enum Anchor {
@@ -40,123 +35,6 @@ pub struct Called {
     pub reference_size: usize,
     pub alternative_size: usize,
     pub anchor: Anchor,
-}
-
-// Where the copy beside an insertion begins, if there is one.
-enum Beside {
-    At(Zero),
-    Nowhere,
-}
-
-// Whether a part of the target holds the same bases as the alternative.
-fn is_copy(part: &[u8], alternative: &[u8; 2048], head: usize) -> bool
-    requires { ⌜ Placed head (length (now part)) ⌝ }
-    ensures { λ r. ⌜ r ≡ sameBases (now (part .entry)) (window (now (alternative .entry)) head (length (now (part .entry)))) ⌝ }
-{
-    let mut i: usize = 0;
-    while i < part.len() {
-        if part[i] != alternative[(head + i) % 2048] {
-            return false;
-        }
-        i += 1;
-    }
-    true
-}
-
-// Whether a part of the target is the reverse complement of the alternative, which is as long.
-fn is_inverted(part: &[u8], alternative: &[u8; 2048], head: usize) -> bool
-    requires { ⌜ Placed head (length (now part)) ⌝ }
-    ensures { λ r. ⌜ r ≡ sameBases (now (part .entry))
-        (reverseComplement (window (now (alternative .entry)) head (length (now (part .entry))))) ⌝ }
-{
-    let n = part.len();
-    let mut i: usize = 0;
-    while i < n {
-        if part[i] != complement(alternative[(head + (n - 1 - i)) % 2048]) {
-            return false;
-        }
-        i += 1;
-    }
-    true
-}
-
-// Rightward, the bases before the gap are the copy, and the piece begins at or before them.
-fn copy_before(
-    target: &[u8],
-    piece: Piece,
-    place: Zero,
-    alternative: &[u8; 2048],
-    head: usize,
-    count: usize,
-) -> Beside
-    requires { ⌜ Placed head count × (place .0 ≤ length (now target)) ⌝ }
-    ensures { λ r. ⌜ r ≡ found
-        (copyBeside Rightward piece (now (target .entry)) (place .0) (window (now (alternative .entry)) head count))
-        (copyStart Rightward (place .0) count) ⌝ }
-{
-    let gap = place.0;
-    if gap < count {
-        return Beside::Nowhere;
-    }
-    let first = gap - count;
-    if first < piece.left.0 {
-        return Beside::Nowhere;
-    }
-    if is_copy(&target[first..gap], alternative, head) {
-        Beside::At(Zero(first))
-    } else {
-        Beside::Nowhere
-    }
-}
-
-// Leftward, the bases after the gap are the copy, and the piece and the target end at or after them.
-fn copy_after(
-    target: &[u8],
-    piece: Piece,
-    place: Zero,
-    alternative: &[u8; 2048],
-    head: usize,
-    count: usize,
-) -> Beside
-    requires { ⌜ Placed head count × (place .0 ≤ length (now target)) × (length (now target) ≤ longestTarget) ⌝ }
-    ensures { λ r. ⌜ r ≡ found
-        (copyBeside Leftward piece (now (target .entry)) (place .0) (window (now (alternative .entry)) head count))
-        (copyStart Leftward (place .0) count) ⌝ }
-{
-    let gap = place.0;
-    let last = gap + count;
-    if piece.right.0 < last {
-        return Beside::Nowhere;
-    }
-    if target.len() < last {
-        return Beside::Nowhere;
-    }
-    if is_copy(&target[gap..last], alternative, head) {
-        Beside::At(place)
-    } else {
-        Beside::Nowhere
-    }
-}
-
-// The copy beside an insertion, wholly in the piece.
-fn copy_beside(
-    target: &[u8],
-    direction: Direction,
-    piece: Piece,
-    place: Zero,
-    alternative: &[u8; 2048],
-    head: usize,
-    count: usize,
-) -> Beside
-    requires { ⌜ Placed head count × (place .0 ≤ length (now target)) × (length (now target) ≤ longestTarget) ⌝ }
-    ensures { λ r. ⌜ r ≡ found
-        (copyBeside direction piece (now (target .entry)) (place .0) (window (now (alternative .entry)) head count))
-        (copyStart direction (place .0) count) ⌝ }
-{
-    match direction {
-        Direction::Rightward => copy_before(target, piece, place, alternative, head, count),
-        Direction::Leftward => copy_after(target, piece, place, alternative, head, count),
-    }
 }
 
 // A class whose range is the reference's: the bases from the place on.
@@ -192,25 +70,6 @@ fn deleted_or_replaced(place: Zero, reference_size: usize, count: usize) -> Call
     over_reference(Class::Replacement, place, reference_size, count)
 }
 
-// Whether the reference, which is as long as the alternative, is its reverse complement. One base is no inversion.
-fn is_inversion(
-    target: &[u8],
-    place: Zero,
-    alternative: &[u8; 2048],
-    head: usize,
-    count: usize,
-) -> bool
-    requires { ⌜ Placed head count × (place .0 + count ≤ length (now target)) ⌝ }
-    ensures { λ r. ⌜ r ≡ isInversion (slice (place .0) (place .0 + count) (now (target .entry))) (window (now (alternative .entry)) head count) ⌝ }
-{
-    if count <= 1 {
-        return false;
-    }
-    let first = place.0;
-    let end = first + count;
-    is_inverted(&target[first..end], alternative, head)
-}
-
 // The alternative is longer: where the reference is empty a duplication or an insertion, else a replacement.
 fn build_result_len_gt(
     target: &[u8],
@@ -229,7 +88,7 @@ fn build_result_len_gt(
     if 0 < reference_size {
         return over_reference(Class::Replacement, place, reference_size, count);
     }
-    match copy_beside(target, direction, piece, place, alternative, head, count) {
+    match copies::copy_beside(target, direction, piece, place, alternative, head, count) {
         Beside::At(first) => over_reference(Class::Duplication, first, count, 0),
         Beside::Nowhere => Called {
             class: Class::Insertion,
@@ -265,7 +124,7 @@ fn build_result_len_eq(
     requires { ⌜ «reference_size» ≡ count ⌝ }
     ensures { λ r. ⌜ CallsInAny (now (target .entry)) (place .0) «reference_size» (window (now (alternative .entry)) head count) r ⌝ }
 {
-    if is_inversion(target, place, alternative, head, count) {
+    if inversions::is_inversion(target, place, alternative, head, count) {
         return over_reference(Class::Inversion, place, reference_size, 0);
     }
     if reference_size == 0 {

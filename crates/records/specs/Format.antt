@@ -9,7 +9,7 @@ use lib.IntN.{ℤ}
 use mir.Syntax.{w32, w64}
 use mir.Val.{toZ}
 use lib.ListN.{length}
-use Rattle.tables.specs.Numbers.{numberAt}
+use Rattle.exons.specs.Numbers.{numberAt}
 use Rattle.records.specs.declared.Part.{Part}
 use Rattle.records.specs.declared.Numbers.{Numbers}
 use Rattle.records.specs.declared.Request.{Request}

@@ -7,7 +7,7 @@ use definition::Refusal;
 fn put_name(page: &mut [u8], used: usize, refusal: Refusal) -> usize
     ensures { λ r. ⌜ Put (now (page .entry)) used (refusalName refusal) (now (page .exit)) r ⌝ }
 {
-    let number = codes::refusal_number(refusal) as usize;
+    let number = numbers::refusal_number(refusal) as usize;
     terminal::put(
         page,
         used,
@@ -39,7 +39,7 @@ pub fn put_refusal(page: &mut [u8], used: usize, refusal: Refusal) -> usize
     ensures { λ r. ⌜ Put (now (page .entry)) used (refusalText refusal) (now (page .exit)) r ⌝ }
 {
     let titled = terminal::put(page, used, b"refusal ");
-    let numbered = terminal::put_number(page, titled, codes::refusal_number(refusal) as usize);
+    let numbered = terminal::put_number(page, titled, numbers::refusal_number(refusal) as usize);
     let spaced = terminal::put_byte(page, numbered, b' ');
     put_name(page, spaced, refusal)
 }
@@ -48,7 +48,7 @@ pub fn put_refusal(page: &mut [u8], used: usize, refusal: Refusal) -> usize
 pub fn put_advice(page: &mut [u8], used: usize, refusal: Refusal) -> usize
     ensures { λ r. ⌜ Put (now (page .entry)) used (adviceText refusal) (now (page .exit)) r ⌝ }
 {
-    let number = codes::refusal_number(refusal) as usize;
+    let number = numbers::refusal_number(refusal) as usize;
     terminal::put(
         page,
         used,

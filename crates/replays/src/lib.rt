@@ -53,7 +53,7 @@ fn in_numbers(outcome: Outcome) -> ReplyNumbers
 {
     match outcome {
         Outcome::Refuse(refusal) => ReplyNumbers {
-            refusal: codes::refusal_number(refusal),
+            refusal: numbers::refusal_number(refusal),
             class: 0,
             start: 0,
             end: 0,
@@ -65,7 +65,7 @@ fn in_numbers(outcome: Outcome) -> ReplyNumbers
             let class = answer.class;
             ReplyNumbers {
                 refusal: 0,
-                class: codes::class_number(class),
+                class: numbers::class_number(class),
                 start: answer.start.0,
                 end: answer.end.0,
                 probes: answer.probes,

@@ -1,4 +1,2 @@
-pub mod Rules
-pub mod Anchors
 pub mod Verdicts
 pub mod Unique

@@ -4,7 +4,6 @@ use mathlib.Core.Path.{sym, _∙_}
 use denote.Ref.{now}
 use Rattle.definition.proofs.Fixes.{Fixes}
 use Rattle.results.proofs.build_result.Reads as build-result
-use Rattle.results.proofs.write_part.Reads as write-part
 
 pub build-result-one-outcome : Fixes (λ κs x at. x) build-result.Post
 build-result-one-outcome κs a x y atX atY p q = p .numbers ∙ sym (q .numbers)
@@ -14,6 +13,3 @@ build-result-one-reference κs a x y atX atY p q = p .referenceBuffer ∙ sym (q
 
 pub build-result-one-alternative : Fixes (λ κs x at. now (at .1 .1 .1 .1 .1 .1 .1 .1 .1 .1 .1 .0)) build-result.Post
 build-result-one-alternative κs a x y atX atY p q = p .alternativeBuffer ∙ sym (q .alternativeBuffer)
-
-pub write-part-one : Fixes (λ κs x at. now (at .1 .0)) write-part.Post
-write-part-one κs a x y atX atY p q = p ∙ sym q

@@ -1,26 +1,24 @@
 -- What comes back and what is written meets the verdict: row 16, and an answer. Assumes nothing.
-use Prim.Native.Nat.{ℕ, _+_, _≤_}
+use Prim.Native.Nat.{ℕ, _≤_}
 use native.Mathlib.Omega.{arith}
 use mathlib.Core.Path.{_≡_, refl, sym, _∙_}
 use mathlib.Core.Bool.{true, false}
 use mathlib.Core.List.{List}
-use lib.ListN.{length, take}
-use lib.Seq.{slice, take-all}
+use lib.ListN.{take}
 use Rattle.definition.specs.declared.Direction.{Direction}
 use Rattle.definition.specs.declared.Kind.{Kind}
 use Rattle.definition.specs.declared.Piece.{Piece}
 use Rattle.definition.specs.declared.Refusal.the-variants.{VariantSpanOutsideSequenceBounds}
 use Rattle.definition.specs.declared.Outcome.{Outcome}
-use Rattle.definition.specs.declared.Outcome.the-variants.{Answer, Refuse}
+use Rattle.definition.specs.declared.Outcome.the-variants.{Refuse}
 use Rattle.definition.specs.Answer.{Named, named, firstBaseRule, lastBaseRule, leavesTarget}
 use Rattle.definition.specs.Verdict.{answered, answeredOr16, namedAt}
 use Rattle.definition.specs.Reply.{written, outcomeOf, referenceOut, alternativeOut, Met}
 use Rattle.rotating.specs.Window.{window}
 use Rattle.rotating.proofs.Laws.{window-take}
-use Rattle.definition.proofs.Parts.{slice-size}
 use Rattle.classes.specs.declared.Called.{Called}
-use Rattle.classes.specs.Called.{anchored, calledIn}
-use Rattle.results.specs.Rules.{reported}
+use Rattle.classes.specs.Called.{calledIn}
+use Rattle.buffers.specs.Reported.{reported}
 
 -- the bases that are kept are the same of the window and of its beginning
 pub called-kept : (target bytes : List ℕ) (head count : ℕ) (n : Called) → n .«alternative_size» ≤ count
@@ -31,29 +29,6 @@ called-kept target bytes head count n h =
     window-take bytes head (n .«alternative_size») (n .«alternative_size») (omega arith)
     ∙ sym (window-take bytes head (n .«alternative_size») count h) in
     rw kept
-
--- both alleles as they are called are written, and the numbers are given
-pub met-called : (target bases : List ℕ) (n : Called) (probes size : ℕ) (ref ref′ alt alt′ : List ℕ)
-    → n .«reference_start» .0 + n .«reference_size» ≤ length target → length bases ≡ n .«alternative_size»
-    → ref′ ≡ written (slice (n .«reference_start» .0) (n .«reference_start» .0 + n .«reference_size») target) ref
-    → size ≡ length (anchored (n .anchor) target bases) → alt′ ≡ written (anchored (n .anchor) target bases) alt
-    → Met (answered (reported probes (calledIn target bases n)))
-    (Answer
-    (record {
-      class = n .class;
-      start = n .start;
-      end = n .end;
-      probes = probes;
-      «reference_size» = n .«reference_size»;
-      «alternative_size» = size;
-    }))
-    ref ref′ alt alt′
-unfolding calledIn outcomeOf referenceOut alternativeOut
-met-called target bases n probes size ref ref′ alt alt′ fits many r s a =
-    let whole : take (n .«alternative_size») bases ≡ bases = take-all (n .«alternative_size») bases (omega arith) in
-    let long : length (slice (n .«reference_start» .0) (n .«reference_start» .0 + n .«reference_size») target) ≡ n .«reference_size» =
-    slice-size (n .«reference_start» .0) (n .«reference_size») target fits in
-    record { numbers = rw (long, whole, s); referenceBuffer = r; alternativeBuffer = rw whole a }
 
 module _ (direction : Direction) (kind : Kind) (piece : Piece) (target : List ℕ) (q probes : ℕ) (reference bases : List ℕ) where
   -- row 16 touches no buffer

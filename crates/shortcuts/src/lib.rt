@@ -6,7 +6,7 @@ ghost use lib.Seq.{slice};
 ghost use Rattle.definition.specs.Limits.{longestTarget, longestAllele};
 ghost use Rattle.definition.specs.Verdict.{answered, answerAtOnce};
 ghost use Rattle.definition.specs.Reply.{Met};
-ghost use Rattle.results.specs.Asked.{Room};
+ghost use Rattle.buffers.specs.Asked.{Room};
 ghost use Rattle.shortcuts.specs.Ways.{replacedWay, wayOf, inPlace};
 use definition::Answered;
 use definition::Class;
@@ -75,12 +75,12 @@ pub fn answer_in_place(
 {
     let from = start.0;
     let to = end.0;
-    results::write_part(&target[from..to], reference_out);
-    results::write_part(alternative, alternative_out);
+    buffers::write_part(&target[from..to], reference_out);
+    buffers::write_part(alternative, alternative_out);
     Outcome::Answer(Answered {
         class: class,
-        start: codes::one_based(start),
-        end: codes::before_gap(end),
+        start: positions::one_based(start),
+        end: positions::before_gap(end),
         probes: 0,
         reference_size: to - from,
         alternative_size: alternative.len(),

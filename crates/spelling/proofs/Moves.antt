@@ -21,7 +21,7 @@ use Rattle.alleles.specs.Held.{held}
 use Rattle.slides.specs.declared.Shuffled.{Shuffled}
 use Rattle.shuffle.specs.Shuffle.{Asked, Settled}
 use Rattle.classes.specs.Settled as result
-use Rattle.results.specs.Rules.{reported}
+use Rattle.buffers.specs.Reported.{reported}
 
 module _ (direction : Direction) (kind : Kind) (piece : Piece) (target : List ℕ) (c : Change) (most : ℕ) (asked : Asked piece target c most)
     (s : Shuffled) (st : Settled direction piece target c s) where

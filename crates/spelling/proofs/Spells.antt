@@ -1,7 +1,8 @@
 -- The change that each edit spells lies in the range, and is what the shuffle asks for. Assumes nothing.
 use mathlib.Core.Path.{_≡_, refl, sym, ap₂, _∙_}
-use mathlib.Core.Bool.{not}
-use mathlib.Core.List.{List, []}
+use mathlib.Core.Bool.{true, false, not, true≢false, false≢true}
+use mathlib.Core.Logic.{inl, inr}
+use mathlib.Core.List.{List, [], _∷_}
 use Prim.Native.Nat.{ℕ, _+_, _-_, _≤_}
 use native.Mathlib.Omega.{arith}
 use borrow.Author.Tests.{eqb-true, not-false}
@@ -10,16 +11,23 @@ use lib.ListN.{length, take, drop}
 use lib.Seq.{slice, length-slice, take-append-seam}
 use Rattle.definition.specs.declared.Edit.{Edit}
 use Rattle.definition.specs.declared.Edit.the-variants.{Insert, Duplicate, Delete, Replace, Invert}
+use Rattle.definition.proofs.Edit.{the-type}
 use Rattle.definition.specs.declared.Piece.{Piece}
+use Rattle.definition.specs.declared.Zero.{Zero}
+use Rattle.spelling.specs.declared.Gaps.{Gaps}
+use denote.Enum.Declared.{tagOf}
+use types.Run.{OneOf}
 use Rattle.definition.specs.Bases.{reverseComplement}
 use Rattle.definition.specs.Limits.{longestAllele}
-use Rattle.definition.specs.Change.{spelled}
+use Rattle.definition.specs.Change.{Change, spelled}
 use Rattle.definition.specs.Place.{rightEdge}
 use Rattle.definition.specs.Reply.{written}
 use Rattle.definition.specs.Verdict.{readAlternative}
 use Rattle.definition.proofs.Tests.{or-false, length-reverse-complement}
+use Rattle.edits.specs.Reads.{reads}
 use Rattle.shuffle.specs.Shuffle.{Asked}
 use Rattle.spelling.specs.Asked.{Ranged, Read}
+use Rattle.spelling.specs.Spelled.{gapsOf, copiedBy}
 
 -- what was written at the front of a buffer is read back
 pub read-back : (xs buffer : List ℕ) → take (length xs) (written xs buffer) ≡ xs
@@ -31,10 +39,49 @@ pub inverted-back : (part buffer buffer′ : List ℕ) (n : ℕ) → n ≡ lengt
 inverted-back part buffer buffer′ n e f =
     ap₂ (λ (m : ℕ) (x : List ℕ). take m x) (e ∙ sym (length-reverse-complement part)) f ∙ read-back (reverseComplement part) buffer
 
--- an inversion reads no alternative
-pub reads-nothing : (start end : ℕ) → Read Invert start end []
+abbrev pub between : Gaps → List ℕ → Change
+between gaps inserted = record { from = gaps .from .0; to = gaps .to .0; inserted = inserted }
+
+module _ (target : List ℕ) (start end : Zero) (alternative : List ℕ) where
+  -- an edit that reads the alternative puts it in
+  pub read : (edit : Edit) → reads edit ≡ true → between (gapsOf edit start end) alternative ≡ spelled edit target (start .0) (end .0) alternative
+  unfolding spelled gapsOf
+  read Insert e = refl
+  read Duplicate e = absurd (false≢true e)
+  read Delete e = absurd (false≢true e)
+  read Replace e = refl
+  read Invert e = absurd (false≢true e)
+
+  -- and one that does not read it spells the same change with any
+  pub unread : (edit : Edit) → reads edit ≡ false → spelled edit target (start .0) (end .0) [] ≡ spelled edit target (start .0) (end .0) alternative
+  unfolding spelled
+  unread Insert e = absurd (true≢false e)
+  unread Duplicate e = refl
+  unread Delete e = refl
+  unread Replace e = absurd (true≢false e)
+  unread Invert e = refl
+
+-- the bases that it puts in are a copy or none, if it is no inversion, by its tag
+pub copies : (target : List ℕ) (start end : Zero) (edit : Edit) → reads edit ≡ false → OneOf (0 ∷ 1 ∷ 2 ∷ 3 ∷ []) (tagOf the-type edit)
+    → between (gapsOf edit start end) (copiedBy edit target (start .0) (end .0)) ≡ spelled edit target (start .0) (end .0) []
+unfolding spelled gapsOf copiedBy
+copies target start end Insert e k = absurd (true≢false e)
+copies target start end Duplicate e k = refl
+copies target start end Delete e k = refl
+copies target start end Replace e k = absurd (true≢false e)
+copies target start end Invert e k =
+    elim k [
+      | inl a ↦ absurd (omega arith)
+      | inr l ↦ elim l [ inl a ↦ absurd (omega arith) | inr m ↦ elim m [ inl a ↦ absurd (omega arith) | inr a ↦ absurd (omega arith) ] ]
+    ]
+
+pub reads-nothing : (edit : Edit) (start end : ℕ) → reads edit ≡ false → Read edit start end []
 unfolding readAlternative
-reads-nothing start end = record { fits = refl; size = omega arith }
+reads-nothing Insert start end e = absurd (true≢false e)
+reads-nothing Duplicate start end e = record { fits = refl; size = omega arith }
+reads-nothing Delete start end e = record { fits = refl; size = omega arith }
+reads-nothing Replace start end e = absurd (true≢false e)
+reads-nothing Invert start end e = record { fits = refl; size = omega arith }
 
 module _ (piece : Piece) (target : List ℕ) (start end window : ℕ) (r : Ranged piece target start end window) where
   size : length (slice start end target) ≡ end - start

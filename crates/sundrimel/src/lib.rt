@@ -27,7 +27,7 @@ fn in_numbers(outcome: Outcome) -> Answer
 {
     match outcome {
         Outcome::Refuse(refusal) => Answer {
-            refusal: codes::refusal_number(refusal),
+            refusal: numbers::refusal_number(refusal),
             class: 0,
             start: 0,
             end: 0,
@@ -39,7 +39,7 @@ fn in_numbers(outcome: Outcome) -> Answer
             let class = answer.class;
             Answer {
                 refusal: 0,
-                class: codes::class_number(class),
+                class: numbers::class_number(class),
                 start: answer.start.0 as u32,
                 end: answer.end.0 as u32,
                 probes: answer.probes as u32,

@@ -1,4 +1,2 @@
-pub mod Pairs
-pub mod Turns
 pub mod Rules
 pub mod Unique

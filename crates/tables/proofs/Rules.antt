@@ -9,7 +9,7 @@ use lib.ListN.{length}
 use Rattle.definition.specs.declared.Bound.{Bound}
 use Rattle.definition.specs.Limits.{mostExons}
 use Rattle.definition.specs.Piece.{exonsIn, exonsInOrder, boundInTarget, boundsInOrder, tablesHold}
-use Rattle.tables.proofs.Pairs.{pairs-count}
+use Rattle.exons.proofs.Pairs.{pairs-count}
 
 module _ (bytes : List ℕ) (cdsStart cdsEnd : Bound) (size : ℕ) where
   pub left-over : (length bytes % 8 ≡ 0 → ⊥) → false ≡ tablesHold bytes cdsStart cdsEnd size

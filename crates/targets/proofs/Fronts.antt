@@ -13,7 +13,7 @@ use Rattle.text.specs.Text.{partOf}
 use Rattle.definition.specs.Reply.{written}
 use Rattle.letters.specs.declared.Letters.{Letters}
 use Rattle.letters.specs.declared.Letters.the-variants.{Read, SecondRecord, TooLong}
-use Rattle.letters.specs.Letters.{isBlank, recordEnd, recordOf, lettersOf, overflows, keptIn, behindRecord, lettersRead, lettersLaid}
+use Rattle.letters.specs.Letters.{isBlank, recordEnd, recordOf, lettersOf, overflows, keptIn, behindRecord, lettersLaid}
 use Rattle.targets.specs.declared.Target.{Target}
 use Rattle.targets.specs.declared.Target.the-variants as came
 use Rattle.targets.specs.Sources.{Source, found, absent, cameTo, targetOf, laid, lettersIn}

@@ -7,7 +7,7 @@ use definition::Class;
 pub fn put_class(page: &mut [u8], used: usize, class: Class) -> usize
     ensures { λ r. ⌜ Put (now (page .entry)) used (className class) (now (page .exit)) r ⌝ }
 {
-    let number = codes::class_number(class) as usize;
+    let number = numbers::class_number(class) as usize;
     terminal::put(
         page,
         used,

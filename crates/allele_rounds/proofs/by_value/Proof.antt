@@ -1,6 +1,6 @@
 -- `allele_rounds::by_value` has no fault: before each round one allele holds one base and the other none. Assumes nothing.
 use mathlib.Core.Path.{_≡_}
-use Prim.Native.Nat.{_-_, _<_, _≤_}
+use Prim.Native.Nat.{_-_, _≤_}
 use native.Mathlib.Omega.{arith}
 use borrow.Author.Needs.{needs}
 use Rattle.definition.proofs.Prefixes.{lcp-le-right}

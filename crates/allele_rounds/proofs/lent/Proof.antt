@@ -1,9 +1,6 @@
 -- `allele_rounds::lent` has no fault: the head stays a place of the buffer. Assumes nothing.
-use mathlib.Core.Path.{_≡_}
 use Prim.Native.Nat.{_-_, _<_, _≤_}
-use native.Mathlib.Omega.{arith}
 use borrow.Author.Needs.{needs}
-use Rattle.alleles.specs.Held.{Good}
 use Rattle.allele_rounds.proofs.lent.Statement.{statement}
 use Rattle.allele_rounds.proofs.lent.Tie as tie
 

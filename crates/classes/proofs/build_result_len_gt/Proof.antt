@@ -8,7 +8,7 @@ use Rattle.definition.proofs.Meaning.{copy-fits}
 use Rattle.rotating.specs.Window.{window}
 use Rattle.rotating.proofs.Laws.{window-length}
 use Rattle.classes.specs.Called.{CallsAt, unanchored}
-use Rattle.classes.proofs.Copies.{found-at, found-nowhere}
+use Rattle.copies.proofs.Copies.{found-at, found-nowhere}
 use Rattle.classes.proofs.Names.{not-inverted, calls-insertion, calls-duplication, calls-replacement}
 use borrow.Author.Needs.{needs}
 use Rattle.classes.proofs.build_result_len_gt.Statement.{statement}

@@ -8,7 +8,7 @@ use lib.ListN.{length}
 use denote.Ref.{now}
 use Rattle.definition.specs.Verdict.{badCode, badWindow, badTarget, badBase}
 use Rattle.normalizer.specs.Asked.{asked}
-use Rattle.normalizer.proofs.Answers.{refused-met}
+use Rattle.verdicts.proofs.Answers.{refused-met}
 use Rattle.normalizer.proofs.Rows.{row-1, row-2, row-3, row-4}
 use borrow.Author.Needs.{needs}
 use Rattle.normalizer.proofs.normalize.Statement.{statement}

@@ -5,7 +5,7 @@ use native.Mathlib.Omega.{arith}
 use borrow.Author.Needs.{needs}
 use lib.ListN.{length}
 use Rattle.definition.specs.Piece.{little}
-use Rattle.tables.specs.Numbers.{numberAt}
+use Rattle.exons.specs.Numbers.{numberAt}
 use Rattle.records.specs.Format.{storedNumber}
 use Rattle.records.proofs.number.Statement.{statement}
 use Rattle.records.proofs.number.Tie as tie

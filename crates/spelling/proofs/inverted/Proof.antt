@@ -1,5 +1,5 @@
 -- `spelling::inverted` meets its contract: what is read back of the buffer is the reverse complement of the range. Assumes nothing.
-use mathlib.Core.Path.{sym, ap, _∙_}
+use mathlib.Core.Path.{refl, sym, ap, _∙_}
 use mathlib.Core.List.{[]}
 use Prim.Native.Nat.{_-_}
 use native.Mathlib.Omega.{arith}
@@ -44,7 +44,7 @@ moved-requires c κs =
     let s = c .before .before .before .before .before .before .before .before .before .before in
     let v = c .before .before .before .before .revcomp in
     let e = inverted-back (take (s .args .end .0 - s .args .start .0) (drop (s .args .start .0) (s .args .target .now))) _ _ (v .result) (v .ensures .0) (v .ensures .1) ∙ ap reverseComplement (lent-part (s .args .start .0) (s .args .end .0) (s .args .target .now)) in (
-      rw e (asks (s .args .piece) (s .args .target .now) (s .args .start .0) (s .args .end .0) (s .args .window) (s .pre .0) Invert [] (reads-nothing (s .args .start .0) (s .args .end .0))),
+      rw e (asks (s .args .piece) (s .args .target .now) (s .args .start .0) (s .args .end .0) (s .args .window) (s .pre .0) Invert [] (reads-nothing Invert (s .args .start .0) (s .args .end .0) refl)),
       ((omega (arith, s .pre .0 .ordered, s .pre .0 .inTarget), s .pre .0 .short), s .pre .1),
     )
 

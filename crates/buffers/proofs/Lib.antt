@@ -1,0 +1,3 @@
+pub mod Anchors
+pub mod Written
+pub mod Unique

@@ -1,0 +1,4 @@
+pub mod Compared
+pub mod Parts
+pub mod Copies
+pub mod Unique

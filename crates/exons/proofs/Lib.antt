@@ -1,0 +1,3 @@
+pub mod Pairs
+pub mod Turns
+pub mod Unique
