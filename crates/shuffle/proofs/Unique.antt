@@ -1,23 +1,23 @@
--- The window shows nowhere: any two results that the contracts allow for one change, whatever the windows, agree in place, probes and alleles.
--- Assumes nothing.
-use mathlib.Core.Path.{_≡_, sym, ap, _∙_}
-use mathlib.Core.List.{List}
+-- Each public contract fixes the place, the probes and the bases of both alleles: those of any two results that it allows are equal. Assumes nothing.
 use Prim.Native.Nat.{ℕ}
-use Rattle.definition.specs.declared.Direction.{Direction}
-use Rattle.definition.specs.declared.Piece.{Piece}
-use Rattle.definition.specs.Change.{Change, trimmed}
-use Rattle.definition.specs.Place.{probesOf}
+use mathlib.Core.Path.{_≡_}
+use mathlib.Core.List.{List}
+use Rattle.definition.proofs.Fixes.{Fixes}
+use Rattle.alleles.specs.Held.{held}
 use Rattle.slides.specs.declared.Shuffled.{Shuffled}
-use Rattle.slides.proofs.Unique.{Alike, same-part}
-use Rattle.shuffle.specs.Shuffle.{Settled}
+use Rattle.slides.proofs.Unique.{Alike}
+use Rattle.moves.proofs.Unique.{one-answer}
+use Rattle.shuffle.proofs.normalize_alleles_5_to_3.Reads as rightward
+use Rattle.shuffle.proofs.normalize_alleles_3_to_5.Reads as leftward
 
-pub one-answer : (direction : Direction) (piece : Piece) (target : List ℕ) (c : Change) (s s′ : Shuffled)
-    → Settled direction piece target c s → Settled direction piece target c s′ → Alike s s′
-one-answer direction piece target c s s′ a b =
-    let same : s .place .0 ≡ s′ .place .0 = a .place ∙ sym (b .place) in
-    record {
-      place = same;
-      probes = a .probes ∙ ap (probesOf direction piece target (trimmed direction target c)) same ∙ sym (b .probes);
-      reference = same-part same (a .reference) (b .reference);
-      alternative = same-part same (a .alternative) (b .alternative);
-    }
+abbrev seen : Shuffled → ℕ × ℕ × List ℕ × List ℕ
+seen s = (s .place .0, s .probes, held (s .reference), held (s .alternative))
+
+same-seen : {s s′ : Shuffled} → Alike s s′ → seen s ≡ seen s′
+same-seen a = λ i. (a .place i, a .probes i, a .reference i, a .alternative i)
+
+pub normalize-alleles-5-to-3-one : Fixes (λ κs x at. seen x) rightward.Post
+normalize-alleles-5-to-3-one κs a x y atX atY p q = same-seen (one-answer _ _ _ _ x y p q)
+
+pub normalize-alleles-3-to-5-one : Fixes (λ κs x at. seen x) leftward.Post
+normalize-alleles-3-to-5-one κs a x y atX atY p q = same-seen (one-answer _ _ _ _ x y p q)

@@ -19,7 +19,7 @@ use Rattle.definition.proofs.Trims.{length-reference}
 use Rattle.definition.proofs.Answers.{settled}
 use Rattle.alleles.specs.Held.{held}
 use Rattle.slides.specs.declared.Shuffled.{Shuffled}
-use Rattle.shuffle.specs.Shuffle.{Asked, Settled}
+use Rattle.moves.specs.Settled.{Asked, Settled}
 use Rattle.classes.specs.Settled as result
 use Rattle.buffers.specs.Reported.{reported}
 

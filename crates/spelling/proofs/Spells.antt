@@ -25,7 +25,7 @@ use Rattle.definition.specs.Reply.{written}
 use Rattle.definition.specs.Verdict.{readAlternative}
 use Rattle.definition.proofs.Tests.{or-false, length-reverse-complement}
 use Rattle.edits.specs.Reads.{reads}
-use Rattle.shuffle.specs.Shuffle.{Asked}
+use Rattle.moves.specs.Settled.{Asked}
 use Rattle.spelling.specs.Asked.{Ranged, Read}
 use Rattle.spelling.specs.Spelled.{gapsOf, copiedBy}
 

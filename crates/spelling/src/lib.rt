@@ -10,7 +10,7 @@ ghost use Rattle.definition.specs.Change.{spelled};
 ghost use Rattle.definition.specs.Verdict.{movedIn};
 ghost use Rattle.definition.specs.Reply.{Met};
 ghost use Rattle.edits.specs.Reads.{reads};
-ghost use Rattle.shuffle.specs.Shuffle.{Asked, Settled};
+ghost use Rattle.moves.specs.Settled.{Asked, Settled};
 ghost use Rattle.buffers.specs.Asked.{Room};
 ghost use Rattle.spelling.specs.Asked.{Ranged, Read};
 ghost use Rattle.spelling.specs.Spelled.{gapsOf, copiedBy};

@@ -9,35 +9,27 @@ use Rattle.definition.proofs.Parts.{lent-part}
 use Rattle.windows.proofs.normalize_alleles_left_inner.Statement.{statement}
 use Rattle.windows.proofs.normalize_alleles_left_inner.Tie as tie
 
--- src/lib.rt:96:28
 sub-least : tie.Need-sub-least
 sub-least c = search needs
 
--- src/lib.rt:96:9
 least-requires : tie.Need-least-requires
 least-requires c κs = search needs
 
--- src/lib.rt:97:16
 sub-from : tie.Need-sub-from
 sub-from c = search needs
 
--- src/lib.rt:98:17
 sub-chunk : tie.Need-sub-chunk
 sub-chunk c = search needs
 
--- src/lib.rt:98:17
 part-chunk-start : tie.Need-part-chunk-start
 part-chunk-start c = search needs
 
--- src/lib.rt:98:17
 part-chunk-end : tie.Need-part-chunk-end
 part-chunk-end c = search needs
 
--- src/lib.rt:99:9
 window-left-requires : tie.Need-window-left-requires
 window-left-requires c κs = search needs
 
--- src/lib.rt:73:1
 returns : tie.Need-returns
 returns c =
     let s = c .before .before .before .before .before .before .args in

@@ -1,3 +1,4 @@
+-- `windows::normalize_alleles_right_inner` meets its contract: the chunk is the part of the target behind the change. Assumes nothing.
 use borrow.Author.Needs.{needs}
 use native.Mathlib.Omega.{arith}
 use Prim.Native.Nat.{_+_, _-_}
@@ -8,39 +9,30 @@ use Rattle.definition.proofs.Parts.{lent-part}
 use Rattle.windows.proofs.normalize_alleles_right_inner.Statement.{statement}
 use Rattle.windows.proofs.normalize_alleles_right_inner.Tie as tie
 
--- src/lib.rt:62:16
 add-from : tie.Need-add-from
 add-from c = search needs
 
--- src/lib.rt:63:28
 sub-least : tie.Need-sub-least
 sub-least c = search needs
 
--- src/lib.rt:63:9
 least-requires : tie.Need-least-requires
 least-requires c κs = search needs
 
--- src/lib.rt:64:14
 add-to : tie.Need-add-to
 add-to c = search needs
 
--- src/lib.rt:65:17
 sub-chunk : tie.Need-sub-chunk
 sub-chunk c = search needs
 
--- src/lib.rt:65:17
 part-chunk-start : tie.Need-part-chunk-start
 part-chunk-start c = search needs
 
--- src/lib.rt:65:17
 part-chunk-end : tie.Need-part-chunk-end
 part-chunk-end c = search needs
 
--- src/lib.rt:66:9
 window-right-requires : tie.Need-window-right-requires
 window-right-requires c κs = search needs
 
--- src/lib.rt:38:1
 returns : tie.Need-returns
 returns c =
     let s = c .before .before .before .before .before .before .args in

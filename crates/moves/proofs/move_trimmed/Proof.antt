@@ -1,14 +1,14 @@
+-- `moves::move_trimmed` meets its contract: what is left of the change lies in target and insertion, and it stays or is handed to a slide. Assumes nothing.
 use mathlib.Core.Logic.{inl, inr, ⊎-elim}
 use mathlib.Core.Path.{_≡_}
 use Prim.Native.Nat.{ℕ, _+_, _≤_, min}
 use native.Mathlib.Omega.{arith}
 use borrow.Author.Needs.{needs}
 use Rattle.definition.proofs.Places.{from-edge}
-use Rattle.shuffle.proofs.Settles.{trims, filled-stays, filled-poised, filled-settles, poised-below, poised-above, slid-below, slid-above}
-use Rattle.shuffle.proofs.move_trimmed.Statement.{statement}
-use Rattle.shuffle.proofs.move_trimmed.Tie as tie
+use Rattle.moves.proofs.Settles.{trims, filled-stays, filled-poised, filled-settles, poised-below, poised-above, slid-below, slid-above}
+use Rattle.moves.proofs.move_trimmed.Statement.{statement}
+use Rattle.moves.proofs.move_trimmed.Tie as tie
 
--- src/lib.rt:211:18
 below : (a b n : ℕ) → n ≡ min a b → n ≤ b
 below a b n e = omega arith
 
@@ -18,96 +18,78 @@ add-shared c =
     let t = trims (s .args .direction) (s .args .piece) (s .args .target .now) (record { from = s .args .from .0; to = s .args .to .0; inserted = s .args .inserted .now }) (s .args .most) (s .pre .0) (s .args .front) (s .args .back) (s .pre .1 .0) (s .pre .1 .1) in
     omega (arith, t .inReference, t .inInserted, s .pre .0 .order, from-edge (s .args .piece) (s .args .target .now) (s .pre .0 .right))
 
--- src/lib.rt:212:14
 sub-rn : tie.Need-sub-rn
 sub-rn c = search needs
 
--- src/lib.rt:212:14
 sub-rn-2 : tie.Need-sub-rn-2
 sub-rn-2 c =
     let s = c .before .before .before .before in
     let t = trims (s .args .direction) (s .args .piece) (s .args .target .now) (record { from = s .args .from .0; to = s .args .to .0; inserted = s .args .inserted .now }) (s .args .most) (s .pre .0) (s .args .front) (s .args .back) (s .pre .1 .0) (s .pre .1 .1) in
     omega (arith, t .inReference, t .inInserted, s .pre .0 .order, from-edge (s .args .piece) (s .args .target .now) (s .pre .0 .right))
 
--- src/lib.rt:213:14
 sub-an : tie.Need-sub-an
 sub-an c =
     let s = c .before .before .before .before in
     let t = trims (s .args .direction) (s .args .piece) (s .args .target .now) (record { from = s .args .from .0; to = s .args .to .0; inserted = s .args .inserted .now }) (s .args .most) (s .pre .0) (s .args .front) (s .args .back) (s .pre .1 .0) (s .pre .1 .1) in
     omega (arith, t .inReference, t .inInserted, s .pre .0 .order, from-edge (s .args .piece) (s .args .target .now) (s .pre .0 .right))
 
--- src/lib.rt:214:17
 add-start : tie.Need-add-start
 add-start c =
     let s = c .before .before .before .before .before in
     let t = trims (s .args .direction) (s .args .piece) (s .args .target .now) (record { from = s .args .from .0; to = s .args .to .0; inserted = s .args .inserted .now }) (s .args .most) (s .pre .0) (s .args .front) (s .args .back) (s .pre .1 .0) (s .pre .1 .1) in
     omega (arith, t .inReference, t .inInserted, s .pre .0 .order, from-edge (s .args .piece) (s .args .target .now) (s .pre .0 .right))
 
--- src/lib.rt:215:15
 add-end : tie.Need-add-end
 add-end c =
     let s = c .before .before .before .before .before in
     let t = trims (s .args .direction) (s .args .piece) (s .args .target .now) (record { from = s .args .from .0; to = s .args .to .0; inserted = s .args .inserted .now }) (s .args .most) (s .pre .0) (s .args .front) (s .args .back) (s .pre .1 .0) (s .pre .1 .1) in
     omega (arith, t .inReference, t .inInserted, s .pre .0 .order, from-edge (s .args .piece) (s .args .target .now) (s .pre .0 .right))
 
--- src/lib.rt:216:16
 add-last : tie.Need-add-last
 add-last c = search needs
 
--- src/lib.rt:217:36
 sub-filled : tie.Need-sub-filled
 sub-filled c = search needs
 
--- src/lib.rt:217:36
 part-filled-start : tie.Need-part-filled-start
 part-filled-start c = search needs
 
--- src/lib.rt:217:36
 part-filled-end : tie.Need-part-filled-end
 part-filled-end c =
     let s = c .before .before .before .before .before in
     let t = trims (s .args .direction) (s .args .piece) (s .args .target .now) (record { from = s .args .from .0; to = s .args .to .0; inserted = s .args .inserted .now }) (s .args .most) (s .pre .0) (s .args .front) (s .args .back) (s .pre .1 .0) (s .pre .1 .1) in
     omega (arith, t .inReference, t .inInserted, s .pre .0 .order, from-edge (s .args .piece) (s .args .target .now) (s .pre .0 .right))
 
--- src/lib.rt:217:9
 filled-requires : tie.Need-filled-requires
 filled-requires c κs = search needs
 
--- src/lib.rt:218:38
 sub-filled-2 : tie.Need-sub-filled-2
 sub-filled-2 c = search needs
 
--- src/lib.rt:218:38
 part-filled-start-2 : tie.Need-part-filled-start-2
 part-filled-start-2 c = search needs
 
--- src/lib.rt:218:38
 part-filled-end-2 : tie.Need-part-filled-end-2
 part-filled-end-2 c =
     let s = c .before .before .before .before .before .before .before in
     let t = trims (s .args .direction) (s .args .piece) (s .args .target .now) (record { from = s .args .from .0; to = s .args .to .0; inserted = s .args .inserted .now }) (s .args .most) (s .pre .0) (s .args .front) (s .args .back) (s .pre .1 .0) (s .pre .1 .1) in
     omega (arith, t .inReference, t .inInserted, s .pre .0 .order, from-edge (s .args .piece) (s .args .target .now) (s .pre .0 .right))
 
--- src/lib.rt:218:9
 filled-requires-2 : tie.Need-filled-requires-2
 filled-requires-2 c κs = search needs
 
--- src/lib.rt:221:13
 returns : tie.Need-returns
 returns c =
     let s = c .before .before .before .before .before .before .before .before .before .before .before in
     let t = trims (s .args .direction) (s .args .piece) (s .args .target .now) (record { from = s .args .from .0; to = s .args .to .0; inserted = s .args .inserted .now }) (s .args .most) (s .pre .0) (s .args .front) (s .args .back) (s .pre .1 .0) (s .pre .1 .1) in
     filled-stays (s .args .direction) (s .args .piece) (s .args .target .now) (record { from = s .args .from .0; to = s .args .to .0; inserted = s .args .inserted .now }) (s .args .most) (s .pre .0) (s .args .front) (s .args .back) t _ _ (c .before .before .before .before .filled .ensures) (c .before .before .filled2 .ensures) (c .before .if1 .taken) (c .if2 .taken)
 
--- src/lib.rt:231:45
 enum-told : tie.Need-enum-told
 enum-told c = search needs
 
--- src/lib.rt:231:17
 least-requires : tie.Need-least-requires
 least-requires c κs = search needs
 
--- src/lib.rt:232:13
 slide-right-requires : tie.Need-slide-right-requires
 slide-right-requires c κs =
     let s = c .before .before .before .before .before .before .before .before .before .before .before .before .before in
@@ -115,11 +97,9 @@ slide-right-requires c κs =
     let p = filled-poised (s .args .direction) (s .args .piece) (s .args .target .now) (record { from = s .args .from .0; to = s .args .to .0; inserted = s .args .inserted .now }) (s .args .most) (s .pre .0) (s .args .front) (s .args .back) t _ _ (c .before .before .before .before .before .before .filled .ensures) (c .before .before .before .before .filled2 .ensures) (⊎-elim (λ w. inr (w .1 .left)) (λ w. inl (w .left)) (c .before .before .before .if1 .came)) in
     (below (s .args .piece .right .0) _ (c .least .result) (c .least .ensures), poised-below (s .args .piece) (s .args .target .now) (s .args .from .0 + s .args .front) _ _ (s .args .most) p (c .least .result) (c .least .ensures))
 
--- src/lib.rt:235:17
 enum-told-2 : tie.Need-enum-told-2
 enum-told-2 c = search needs
 
--- src/lib.rt:236:13
 slide-left-requires : tie.Need-slide-left-requires
 slide-left-requires c κs =
     let s = c .before .before .before .before .before .before .before .before .before .before .before .before in
@@ -127,7 +107,6 @@ slide-left-requires c κs =
     let p = filled-poised (s .args .direction) (s .args .piece) (s .args .target .now) (record { from = s .args .from .0; to = s .args .to .0; inserted = s .args .inserted .now }) (s .args .most) (s .pre .0) (s .args .front) (s .args .back) t _ _ (c .before .before .before .before .before .filled .ensures) (c .before .before .before .filled2 .ensures) (⊎-elim (λ w. inr (w .1 .left)) (λ w. inl (w .left)) (c .before .before .if1 .came)) in
     poised-above (s .args .piece) (s .args .target .now) (s .args .from .0 + s .args .front) _ _ (s .args .most) p
 
--- src/lib.rt:195:1
 returns-2 : tie.Need-returns-2
 returns-2 c =
     let s = c .before .before .before .before .before .before .before .before .before .before .before .before .before .before in
@@ -136,7 +115,6 @@ returns-2 c =
     (rw (c .before .before .enum-told .given .1)
     (slid-below (s .args .piece) (s .args .target .now) (s .args .from .0 + s .args .front) _ _ (c .slide-right .result) (c .before .least .result) (c .before .least .ensures) (c .slide-right .ensures)))
 
--- src/lib.rt:195:1
 returns-3 : tie.Need-returns-3
 returns-3 c =
     let s = c .before .before .before .before .before .before .before .before .before .before .before .before .before in

@@ -1,4 +1,4 @@
--- What the shuffles are asked, and what they give back: the definition's place, probes and alleles, in both directions. Assumes nothing.
+-- What the move of a change is asked, and what it gives back: the definition's place, probes and alleles, in both directions. Assumes nothing.
 use mathlib.Core.Path.{_≡_}
 use mathlib.Core.List.{List}
 use Prim.Native.Nat.{ℕ, _-_, _≤_}

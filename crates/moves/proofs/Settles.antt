@@ -25,7 +25,7 @@ use Rattle.slides.specs.declared.Shuffled.{Shuffled}
 use Rattle.definition.proofs.Parts.{lent-part}
 use Rattle.slides.proofs.Slides.{inserted-part}
 use Rattle.slides.specs.Slides.{Sizes, Poised, Part, Slid}
-use Rattle.shuffle.specs.Shuffle.{Asked, Settled}
+use Rattle.moves.specs.Settled.{Asked, Settled}
 
 -- rightward the piece shows only by its right edge, leftward only by its left end
 pub edge-alone : (p p′ : Piece) (target : List ℕ) (start : ℕ) (r a : Allele) (s : Shuffled) → rightEdge p target ≡ rightEdge p′ target
