@@ -1,6 +1,5 @@
 // How long the work of one window takes: twenty bases go behind two alleles, and what both then begin with comes off. `time` before the program
 // with a form and a number of rounds tells it; without arguments each form goes its rounds a few times, and its last count is written.
-ghost use Prim.Native.Nat.{_<_};
 use alleles::Allele;
 use decimals::Number;
 use libc::STDOUT_FILENO;
