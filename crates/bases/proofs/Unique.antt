@@ -7,7 +7,6 @@ use Rattle.bases.proofs.complement.Reads as complement
 use Rattle.bases.proofs.all_bases.Reads as all-bases
 use Rattle.bases.proofs.revcomp.Reads as revcomp
 use Rattle.bases.proofs.same_bases.Reads as same-bases
-use Rattle.bases.proofs.is_reverse_complement.Reads as is-reverse-complement
 
 pub complement-one : Fixes (λ κs x at. x) complement.Post
 complement-one κs a x y atX atY p q = p ∙ sym q
@@ -24,6 +23,3 @@ revcomp-one-buffer κs a x y atX atY p q = p .1 ∙ sym (q .1)
 
 pub same-bases-one : Fixes (λ κs x at. x) same-bases.Post
 same-bases-one κs a x y atX atY p q = p ∙ sym q
-
-pub is-reverse-complement-one : Fixes (λ κs x at. x) is-reverse-complement.Post
-is-reverse-complement-one κs a x y atX atY p q = p ∙ sym q

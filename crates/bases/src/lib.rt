@@ -70,20 +70,3 @@ pub fn same_bases(reference: &[u8], alternative: &[u8]) -> bool
     }
     same
 }
-
-// Whether the reference is the reverse complement of the alternative: both are read in one loop, and nothing is written.
-pub fn is_reverse_complement(reference: &[u8], alternative: &[u8]) -> bool
-    ensures { λ r. ⌜ r ≡ sameBases (now (reference .entry)) (reverseComplement (now (alternative .entry))) ⌝ }
-{
-    let n = alternative.len();
-    if reference.len() != n {
-        return false;
-    }
-    let mut same = true;
-    let mut i: usize = 0;
-    while i < n {
-        same = same & (reference[i] == complement(alternative[n - 1 - i]));
-        i += 1;
-    }
-    same
-}
