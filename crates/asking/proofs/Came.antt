@@ -45,14 +45,17 @@ module _ {came : Came} {reference alternative : List ℕ} where
 module _ (text : List ℕ) (request : Request) (start end : ℕ) (letters : List ℕ) (referenceRoom alternativeRoom : ℕ) {exons : Exons}
     (are : exons ≡ exonsAt text (request .words .exons) .came) where
   pub bad-exons : exons ≡ BadPair → onTarget text request start end letters referenceRoom alternativeRoom ≡ stopped BadExons
+  unfolding onTarget
   bad-exons e = rw (sym are ∙ e)
 
   pub too-many : exons ≡ TooMany → onTarget text request start end letters referenceRoom alternativeRoom ≡ stopped TooManyExons
+  unfolding onTarget
   too-many e = rw (sym are ∙ e)
 
   pub with-table : {size : ℕ} → exons ≡ Table size
       → onTarget text request start end letters referenceRoom alternativeRoom
       ≡ handed (handedTo text request start end letters (exonsAt text (request .words .exons) .bytes) referenceRoom alternativeRoom)
+  unfolding onTarget
   with-table e = rw (sym are ∙ e)
 
 -- and on its range, by what its target comes to
@@ -60,6 +63,7 @@ module _ (text : List ℕ) (request : Request) (start end : ℕ) (file : File) (
     {read : Target} (is : read ≡ targetOf room (sourceOf text (request .words .target) (request .words .file) file bytes)) where
   pub unread : {why : Unread} → read ≡ target.Unread why
       → onRange text request start end file bytes referenceRoom alternativeRoom ≡ stopped (UnreadTarget why)
+  unfolding onRange
   unread e = rw (sym (rw long at is) ∙ e)
 
   -- its letters stand at the front of the buffer, and the request goes on with them
@@ -68,6 +72,7 @@ module _ (text : List ℕ) (request : Request) (start end : ℕ) (file : File) (
       → part ≡ partOf buffer′ 0 size
       → Answers (onTarget text request start end part referenceRoom alternativeRoom) r reference reference′ alternative alternative′
       → Answers (onRange text request start end file bytes referenceRoom alternativeRoom) r reference reference′ alternative alternative′
+  unfolding onRange
   with-letters buffer {buffer′} {part} {size} fits e is-laid is-part answered =
       let source = sourceOf text (request .words .target) (request .words .file) file bytes in
       let letters : part ≡ lettersIn source =
@@ -78,18 +83,22 @@ module _ (text : List ℕ) (request : Request) (start end : ℕ) (file : File) (
 -- and words, by the request that they make
 module _ (text : List ℕ) (file : File) (bytes : List ℕ) (referenceRoom alternativeRoom : ℕ) {asked : Asked} (is : asked ≡ requestOf text) where
   pub broken : {fault : Fault} {at : ℕ} → asked ≡ Broken fault at → onWords text file bytes referenceRoom alternativeRoom ≡ stopped (Wrong fault at)
+  unfolding onWords
   broken e = rw (sym is ∙ e)
 
   module _ {request : Request} (whole : asked ≡ Whole request) where
     pub no-edit : request .codes .edit ≡ noEdit → onWords text file bytes referenceRoom alternativeRoom ≡ stopped NoEdit
+    unfolding onWords
     no-edit e = rw (sym is ∙ whole, eq-eqb (request .codes .edit) noEdit e)
 
     module _ (edits : request .codes .edit ≡ noEdit → ⊥) where
       pub no-range : request .range ≡ Nowhere → onWords text file bytes referenceRoom alternativeRoom ≡ stopped NoRange
+      unfolding onWords
       no-range e = rw (sym is ∙ whole, ne-eqb (request .codes .edit) noEdit edits, e)
 
       pub with-range : {start end : ℕ} → request .range ≡ Between start end
           → onWords text file bytes referenceRoom alternativeRoom ≡ onRange text request start end file bytes referenceRoom alternativeRoom
+      unfolding onWords
       with-range e = rw (sym is ∙ whole, ne-eqb (request .codes .edit) noEdit edits, e)
 
 -- words that make no request name no file

@@ -78,6 +78,7 @@ pairs-fit taken (pair ∷ pairs) k size e h came =
         rw (is, t) (rest eight (omega (arith, length-append taken eight)) (omega arith) (rw (is, t) at came))
 
 exons-fit : (text : List ℕ) (word : ℕ) {size : ℕ} → exonsAt text word .came ≡ Table size → Fitting (exonsAt text word) size
+unfolding exonsAt
 exons-fit text word {size} e = go (eqb word noWord) refl
   where
     go : (b : Bool) → eqb word noWord ≡ b → Fitting (exonsAt text word) size
@@ -103,7 +104,9 @@ table-front text word table {exons} {size} long are e =
 
 -- a word that is given, or not
 pub no-exons : (text : List ℕ) {word : ℕ} → word ≡ noWord → exonsAt text word ≡ record { came = Table 0; bytes = [] }
+unfolding exonsAt
 no-exons text {word} e = rw (eq-eqb word noWord e)
 
 pub some-exons : (text : List ℕ) {word : ℕ} → (word ≡ noWord → ⊥) → exonsAt text word ≡ pairsOf (wordAt text word)
+unfolding exonsAt
 some-exons text {word} e = rw (ne-eqb word noWord e)

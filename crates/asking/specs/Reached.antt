@@ -34,7 +34,7 @@ pub data Came : Type 0 where
   stopped : problems.Problem → Came
 
 -- the exons of a word: an empty table where none is given
-abbrev pub exonsAt : List ℕ → ℕ → Pairs
+unfoldable pub exonsAt : List ℕ → ℕ → Pairs
 exonsAt text word = cond (eqb word noWord) (record { came = Table 0; bytes = [] }) (pairsOf (wordAt text word))
 
 -- a request goes on with its exons, if they are pairs
@@ -44,7 +44,7 @@ withExons BadPair request = stopped BadExons
 withExons TooMany request = stopped TooManyExons
 
 module _ (text : List ℕ) (request : Request) (start end : ℕ) where
-  abbrev pub onTarget : List ℕ → ℕ → ℕ → Came
+  unfoldable pub onTarget : List ℕ → ℕ → ℕ → Came
   onTarget target referenceRoom alternativeRoom =
       let exons = exonsAt text (request .words .exons) in
       withExons (exons .came) (handedTo text request start end target (exons .bytes) referenceRoom alternativeRoom)
@@ -55,7 +55,7 @@ module _ (text : List ℕ) (request : Request) (start end : ℕ) where
   withTarget (target.Unread why) letters referenceRoom alternativeRoom = stopped (Unread why)
 
   -- a target has at most 65,536 letters, one more than row 3 accepts, so that it is row 3 that refuses them
-  abbrev pub onRange : File → List ℕ → ℕ → ℕ → Came
+  unfoldable pub onRange : File → List ℕ → ℕ → ℕ → Came
   onRange file bytes referenceRoom alternativeRoom =
       let source = sourceOf text (request .words .target) (request .words .file) file bytes in
       withTarget (targetOf 65536 source) (lettersIn source) referenceRoom alternativeRoom
@@ -72,7 +72,7 @@ withAsked text (Whole request) file bytes referenceRoom alternativeRoom =
     cond (eqb (request .codes .edit) noEdit) (stopped NoEdit)
     (withRange text request (request .range) file bytes referenceRoom alternativeRoom)
 
-abbrev pub onWords : List ℕ → File → List ℕ → ℕ → ℕ → Came
+unfoldable pub onWords : List ℕ → File → List ℕ → ℕ → ℕ → Came
 onWords text file bytes referenceRoom alternativeRoom = withAsked text (requestOf text) file bytes referenceRoom alternativeRoom
 
 -- what comes back, and the alleles at the front of both buffers: none where there is a problem
@@ -98,5 +98,5 @@ abbrev pub pathIn : List ℕ → Asked → List ℕ
 pathIn text (Whole request) = wordAt text (request .words .file)
 pathIn text (Broken fault at) = []
 
-abbrev pub pathOf : List ℕ → List ℕ
+unfoldable pub pathOf : List ℕ → List ℕ
 pathOf text = pathIn text (requestOf text)

@@ -68,6 +68,7 @@ kept-record more TooLong size e =
 
 front-of : (source : Source) (target : List ℕ) (size : ℕ) → targetOf (length target) source ≡ came.Letters size
     → partOf (laid source target) 0 size ≡ lettersIn source
+unfolding targetOf laid lettersIn
 front-of (found text) target size e =
     kept-front (recordOf text) target size (kept-record (ltb (recordEnd text) (length text)) (keptIn (length target) (recordOf text)) size e)
 front-of (absent why) target size e =

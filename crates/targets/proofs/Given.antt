@@ -11,13 +11,17 @@ use Rattle.targets.specs.Sources.{found, absent, ofFile, sourceOf}
 
 module _ (text : List ℕ) {letters path : ℕ} (file : File) (bytes : List ℕ) where
   pub neither : letters ≡ noWord → path ≡ noWord → sourceOf text letters path file bytes ≡ absent Missing
+  unfolding sourceOf
   neither e f = rw (eq-eqb letters noWord e, eq-eqb path noWord f)
 
   pub by-path : letters ≡ noWord → (path ≡ noWord → ⊥) → sourceOf text letters path file bytes ≡ ofFile file bytes
+  unfolding sourceOf
   by-path e f = rw (eq-eqb letters noWord e, ne-eqb path noWord f)
 
   pub by-letters : (letters ≡ noWord → ⊥) → path ≡ noWord → sourceOf text letters path file bytes ≡ found (wordAt text letters)
+  unfolding sourceOf
   by-letters e f = rw (ne-eqb letters noWord e, eq-eqb path noWord f)
 
   pub both : (letters ≡ noWord → ⊥) → (path ≡ noWord → ⊥) → sourceOf text letters path file bytes ≡ absent Twice
+  unfolding sourceOf
   both e f = rw (ne-eqb letters noWord e, ne-eqb path noWord f)

@@ -21,13 +21,13 @@ pub data Source : Type 0 where
   absent : problems.Unread → Source
 
 -- a file of which so many bytes were read
-abbrev pub ofFile : File → List ℕ → Source
+unfoldable pub ofFile : File → List ℕ → Source
 ofFile (file.Read size) bytes = found (partOf bytes 0 size)
 ofFile file.Unreadable bytes = absent Unreadable
 ofFile file.TooLong bytes = absent LongFile
 
 -- two words, of which one is given: the letters themselves, or the path of a file
-abbrev pub sourceOf : List ℕ → ℕ → ℕ → File → List ℕ → Source
+unfoldable pub sourceOf : List ℕ → ℕ → ℕ → File → List ℕ → Source
 sourceOf text letters path file bytes =
     cond (eqb letters noWord) (cond (eqb path noWord) (absent Missing) (ofFile file bytes))
     (cond (eqb path noWord) (found (wordAt text letters)) (absent Twice))
@@ -38,16 +38,16 @@ cameTo read.SecondRecord = Unread SecondRecord
 cameTo read.TooLong = Unread LongTarget
 
 -- what reading it into a target with so much room comes to
-abbrev pub targetOf : ℕ → Source → Target
+unfoldable pub targetOf : ℕ → Source → Target
 targetOf room (found text) = cameTo (lettersRead room text)
 targetOf room (absent why) = Unread why
 
 -- the target then
-abbrev pub laid : Source → List ℕ → List ℕ
+unfoldable pub laid : Source → List ℕ → List ℕ
 laid (found text) target = lettersLaid (recordOf text) target
 laid (absent why) target = target
 
 -- the letters that stand at its front
-abbrev pub lettersIn : Source → List ℕ
+unfoldable pub lettersIn : Source → List ℕ
 lettersIn (found text) = lettersOf (recordOf text)
 lettersIn (absent why) = []

@@ -1,14 +1,14 @@
 -- `asking::ask_on_range` meets its contract: by what the target comes to; its letters stand at the front of the buffer. Assumes nothing.
 use Prim.Native.Nat.{ℕ}
 use mathlib.Core.Path.{refl}
-use lib.ListN.{replicate, length-replicate}
+use lib.ListN.{length-replicate}
 use Rattle.asking.proofs.Came.{stops, unread, with-letters}
 use borrow.Author.Needs.{needs}
 use Rattle.asking.proofs.ask_on_range.Statement.{statement}
 use Rattle.asking.proofs.ask_on_range.Tie as tie
 
 slice-aggregate-target : tie.Need-slice-aggregate-target
-slice-aggregate-target c = search needs
+slice-aggregate-target c = length-replicate {A = ℕ} 65536 0
 
 read-requires : tie.Need-read-requires
 read-requires c κs = search needs
@@ -36,7 +36,7 @@ returns c =
     let at = c .before .before .before .before .before .before .before .before .before .before .before .before .before .before .before .before .before .before .before .before .before .before .args in
     let read = c .before .before .before .before .before .before .before .before .before .before .before .before .before .before .before .read .ensures in
     let long = length-replicate {A = ℕ} 65536 0 in
-    with-letters (at .text .now) (at .request) (at .start) (at .end) (at .file) (at .bytes .now) _ _ long (read .0) (replicate 65536 0) refl (c .before .before .before .before .before .before .before .before .before .before .before .size .given .1) (read .1)
+    with-letters (at .text .now) (at .request) (at .start) (at .end) (at .file) (at .bytes .now) _ _ long (read .0) _ refl (c .before .before .before .before .before .before .before .before .before .before .before .size .given .1) (read .1)
     (c .before .before .before .before .before .before .before .before .part .ensures) (c .before .before .before .before .before .ask-on-target .ensures)
 
 returns-2 : tie.Need-returns-2

@@ -1,6 +1,6 @@
 -- `asking::path_of` meets its contract: by the request that the words make. Assumes nothing.
 use mathlib.Core.Path.{sym, ap, _∙_}
-use Rattle.asking.specs.Reached.{pathIn}
+use Rattle.asking.specs.Reached.{pathIn, pathOf}
 use Rattle.asking.proofs.Came.{no-path}
 use borrow.Author.Needs.{needs}
 use Rattle.asking.proofs.path_of.Statement.{statement}
@@ -22,9 +22,11 @@ part-requires : tie.Need-part-requires
 part-requires c κs = search needs
 
 returns : tie.Need-returns
+unfolding pathOf
 returns c = c .word .ensures ∙ ap (pathIn (c .before .before .before .before .before .before .args .text .now)) (sym (c .before .before .request .given .1) ∙ c .before .before .before .before .request-of .ensures)
 
 returns-2 : tie.Need-returns-2
+unfolding pathOf
 returns-2 c = c .part .ensures ∙ no-path (c .before .before .before .before .before .args .text .now) ∙ ap (pathIn (c .before .before .before .before .before .args .text .now)) (sym (c .before .enum-told .given .1) ∙ c .before .before .before .request-of .ensures)
 
 pub path-of-spec : {M : Type 1} → statement M

@@ -1,5 +1,6 @@
 -- `targets::read_file` meets its contract: a file that was read is a text, another is none. Assumes nothing.
 use mathlib.Core.Path.{refl}
+use Rattle.targets.specs.Sources.{ofFile, targetOf, laid}
 use borrow.Author.Needs.{needs}
 use Rattle.targets.proofs.read_file.Statement.{statement}
 use Rattle.targets.proofs.read_file.Tie as tie
@@ -23,12 +24,15 @@ same-length : tie.Need-same-length
 same-length c = search needs
 
 returns : tie.Need-returns
+unfolding ofFile targetOf laid
 returns c = rw (c .before .before .before .before .before .before .file .given .1) (rw (c .before .before .before .before .part .ensures) at (c .before .before .read-text .ensures))
 
 returns-2 : tie.Need-returns-2
+unfolding ofFile targetOf laid
 returns-2 c = rw (c .enum-told .given .1) (refl, refl)
 
 returns-3 : tie.Need-returns-3
+unfolding ofFile targetOf laid
 returns-3 c = rw (c .enum-told2 .given .1) (refl, refl)
 
 pub read-file-spec : {M : Type 1} → statement M

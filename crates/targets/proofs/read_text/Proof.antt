@@ -1,6 +1,6 @@
 -- `targets::read_text` meets its contract: each end of the reading is a case of the definition. Assumes nothing.
 use mathlib.Core.Path.{sym, ap, _∙_}
-use Rattle.targets.specs.Sources.{cameTo}
+use Rattle.targets.specs.Sources.{cameTo, targetOf, laid}
 use borrow.Author.Needs.{needs}
 use Rattle.targets.proofs.read_text.Statement.{statement}
 use Rattle.targets.proofs.read_text.Tie as tie
@@ -21,18 +21,21 @@ same-length : tie.Need-same-length
 same-length c = search needs
 
 returns : tie.Need-returns
+unfolding targetOf laid
 returns c = (ap cameTo (sym (c .before .size .given .1) ∙ c .before .before .before .before .before .read-letters .ensures .0), c .before .before .before .before .before .read-letters .ensures .1)
 
 same-length-2 : tie.Need-same-length-2
 same-length-2 c = search needs
 
 returns-2 : tie.Need-returns-2
+unfolding targetOf laid
 returns-2 c = (ap cameTo (sym (c .enum-told .given .1) ∙ c .before .before .before .before .read-letters .ensures .0), c .before .before .before .before .read-letters .ensures .1)
 
 same-length-3 : tie.Need-same-length-3
 same-length-3 c = search needs
 
 returns-3 : tie.Need-returns-3
+unfolding targetOf laid
 returns-3 c = (ap cameTo (sym (c .enum-told2 .given .1) ∙ c .before .before .before .before .read-letters .ensures .0), c .before .before .before .before .read-letters .ensures .1)
 
 pub read-text-spec : {M : Type 1} → statement M
