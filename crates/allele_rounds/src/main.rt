@@ -6,6 +6,9 @@ use libc::STDOUT_FILENO;
 
 const WINDOW: [u8; 20] = *b"AAAAAAAAAAAAAAAAAAAA";
 
+// A base, and the window behind it.
+const RUN: [u8; 21] = *b"AAAAAAAAAAAAAAAAAAAAA";
+
 // The buffers are lent, as in the shuffles, and one base in the first allele moves along a run.
 fn lent(rounds: u32) -> usize {
     let mut reference = Allele::filled(b"A");
@@ -14,15 +17,19 @@ fn lent(rounds: u32) -> usize {
     let mut shared: usize = 0;
     let mut i: u32 = 0;
     while i < rounds {
-        shared = windows::window_right(
+        let stepped = windows::normalize_alleles_right_inner(
+            &RUN,
+            0,
+            21,
+            20,
             &mut reference.bytes,
             head,
             1,
             &mut alternative.bytes,
             head,
             0,
-            &WINDOW,
         );
+        shared = stepped.moved;
         head = (head + shared) % 2048;
         i += 1;
     }

@@ -7,14 +7,14 @@ use Rattle.rotating.proofs.Unique.{equal}
 use Rattle.windows.specs.declared.Stepped.{Stepped}
 use Rattle.windows.specs.Moves.{WindowedRight, WindowedLeft, SteppedRight, SteppedLeft}
 
--- `window_right` and `window_left`: the count and what both windows then hold
-pub windowed-right-equal : {r a chunk r₁ r₂ a₁ a₂ : List ℕ} {m n : ℕ}
+-- of a window stored beside both alleles: the count and what both windows then hold
+windowed-right-equal : {r a chunk r₁ r₂ a₁ a₂ : List ℕ} {m n : ℕ}
     → WindowedRight r a chunk r₁ a₁ m → WindowedRight r a chunk r₂ a₂ n → (m ≡ n) × (r₁ ≡ r₂) × (a₁ ≡ a₂)
 windowed-right-equal p q =
     let e = equal (p .count) (q .count) in
     (e, p .reference ∙ rw e (sym (q .reference)), p .alternative ∙ rw e (sym (q .alternative)))
 
-pub windowed-left-equal : {r a chunk r₁ r₂ a₁ a₂ : List ℕ} {m n : ℕ}
+windowed-left-equal : {r a chunk r₁ r₂ a₁ a₂ : List ℕ} {m n : ℕ}
     → WindowedLeft r a chunk r₁ a₁ m → WindowedLeft r a chunk r₂ a₂ n → (m ≡ n) × (r₁ ≡ r₂) × (a₁ ≡ a₂)
 windowed-left-equal p q =
     let e = equal (p .count) (q .count) in

@@ -14,7 +14,7 @@ pub struct Stepped {
 
 // One window rightward: the chunk goes behind both alleles, of which one is empty, and the result is how many bases they then begin with
 // in common. The caller moves both heads on by it and keeps both counts: what was shared, and what is left of the chunk, is then gone.
-pub fn window_right(
+fn window_right(
     r: &mut [u8; 2048],
     r_head: usize,
     r_count: usize,
@@ -42,7 +42,7 @@ pub fn window_right(
 
 // One window leftward: the chunk goes before both alleles, and the result is how many bases they then end with in common. The caller moves
 // both heads back by it and keeps both counts.
-pub fn window_left(
+fn window_left(
     r: &mut [u8; 2048],
     r_head: usize,
     r_count: usize,

@@ -22,11 +22,11 @@ empty-requires c κs = search needs
 loop-holds : tie.Need-loop-holds Inv-loop μ-loop
 loop-holds c = search needs
 
-slice-aggregate-window-right : tie.Need-slice-aggregate-window-right Inv-loop μ-loop
-slice-aggregate-window-right c = search needs
+slice-aggregate-normalize-alleles-right-inner : tie.Need-slice-aggregate-normalize-alleles-right-inner Inv-loop μ-loop
+slice-aggregate-normalize-alleles-right-inner c = search needs
 
-window-right-requires : tie.Need-window-right-requires Inv-loop μ-loop
-window-right-requires c κs = search needs
+normalize-alleles-right-inner-requires : tie.Need-normalize-alleles-right-inner-requires Inv-loop μ-loop
+normalize-alleles-right-inner-requires c κs = search needs
 
 add-head : tie.Need-add-head Inv-loop μ-loop
 add-head c = search needs
@@ -53,8 +53,8 @@ lent-spec =
     filled-requires
     empty-requires
     loop-holds
-    slice-aggregate-window-right
-    window-right-requires
+    slice-aggregate-normalize-alleles-right-inner
+    normalize-alleles-right-inner-requires
     add-head
     add-i
     loop-less
