@@ -1,9 +1,8 @@
 -- What words come to, by each thing that they need; and what comes back of it: a problem leaves both buffers, a verdict is met. Assumes nothing.
 use Prim.Native.Nat.{ℕ}
-use native.Mathlib.Omega.{arith}
 use mathlib.Core.Path.{_≡_, refl, sym, ap, _∙_}
-use mathlib.Core.List.{List, []}
-use borrow.Author.Tests.{eq-eqb, ne-eqb, le-ltb}
+use mathlib.Core.List.{List}
+use borrow.Author.Tests.{eq-eqb, ne-eqb}
 use lib.ListN.{length}
 use Rattle.definition.specs.Request as definition
 use Rattle.definition.specs.declared.Outcome as definition-outcome
@@ -29,7 +28,7 @@ use Rattle.targets.specs.Sources.{sourceOf, targetOf, laid, lettersIn}
 use Rattle.targets.proofs.Fronts.{front}
 use Rattle.asking.specs.declared.Reached.{Reached}
 use Rattle.asking.specs.declared.Reached.the-variants.{Outcome, Problem}
-use Rattle.handing.specs.Handed.{handedTo}
+use Rattle.asking.specs.Handed.{handedTo}
 use Rattle.asking.specs.Reached.{exonsAt, Came, handed, stopped, onTarget, onRange, onWords, Answers}
 
 module _ {came : Came} {reference alternative : List ℕ} where
@@ -100,7 +99,3 @@ module _ (text : List ℕ) (file : File) (bytes : List ℕ) (referenceRoom alter
           → onWords text file bytes referenceRoom alternativeRoom ≡ onRange text request start end file bytes referenceRoom alternativeRoom
       unfolding onWords
       with-range e = rw (sym is ∙ whole, ne-eqb (request .codes .edit) noEdit edits, e)
-
--- words that make no request name no file
-pub no-path : (text : List ℕ) → partOf text 0 0 ≡ []
-no-path text = rw (le-ltb (length text) 0 (omega arith))

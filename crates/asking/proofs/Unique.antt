@@ -1,12 +1,8 @@
--- Each public contract decides its result: two results that it allows are equal, and so is every byte of both buffers. Assumes nothing.
+-- The contract decides what words reach: two results that it allows are equal, and so is every byte of both buffers. Assumes nothing.
 use mathlib.Core.Path.{sym, _∙_}
 use denote.Ref.{now}
 use Rattle.definition.proofs.Fixes.{Fixes}
 use Rattle.asking.proofs.ask.Reads as ask
-use Rattle.asking.proofs.path_of.Reads as path-of
-
-pub path-of-one : Fixes (λ κs x at. now x) path-of.Post
-path-of-one κs a x y atX atY p q = p ∙ sym q
 
 pub ask-one : Fixes (λ κs x at. x) ask.Post
 ask-one κs a x y atX atY p q = p .reached ∙ sym (q .reached)

@@ -1,2 +1,3 @@
 -- What the contracts of `src/` cite. Assumes nothing.
+pub mod Handed
 pub mod Reached

@@ -26,7 +26,7 @@ use Rattle.targets.specs.declared.Target.the-variants as target
 use Rattle.targets.specs.Sources.{sourceOf, targetOf, lettersIn}
 use Rattle.asking.specs.declared.Reached.{Reached}
 use Rattle.asking.specs.declared.Reached.the-variants.{Outcome, Problem}
-use Rattle.handing.specs.Handed.{handedTo}
+use Rattle.asking.specs.Handed.{handedTo}
 
 -- what words come to: a request that is handed to the normalizer, or a problem
 pub data Came : Type 0 where
@@ -92,11 +92,3 @@ pub record Answers (came : Came) (r : Reached) (reference reference′ alternati
   pub reached : r ≡ reachedBy came
   pub referenceBuffer : reference′ ≡ written (referenceBy came) reference
   pub alternativeBuffer : alternative′ ≡ written (alternativeBy came) alternative
-
--- the path of the file that words name
-abbrev pub pathIn : List ℕ → Asked → List ℕ
-pathIn text (Whole request) = wordAt text (request .words .file)
-pathIn text (Broken fault at) = []
-
-unfoldable pub pathOf : List ℕ → List ℕ
-pathOf text = pathIn text (requestOf text)

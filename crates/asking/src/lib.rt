@@ -1,9 +1,11 @@
 // From words to an outcome: the request that they make is handed to the normalizer with its target and its exon table. A file that the words
-// name is read by the caller, who asks for its path and lends its bytes.
+// name is read by the caller, who lends its bytes.
+mod handing;
+
 ghost use mathlib.Core.Path.{_≡_};
 ghost use lib.ListN.{length};
 ghost use Rattle.exon_lists.specs.Laid.{laidAt};
-ghost use Rattle.asking.specs.Reached.{Answers, exonsAt, pathOf, onTarget, onRange, onWords};
+ghost use Rattle.asking.specs.Reached.{Answers, exonsAt, onTarget, onRange, onWords};
 use definition::Outcome;
 use exon_lists::Exons;
 use problems::Problem;
@@ -99,16 +101,6 @@ fn ask_on_range(
             alternative_out,
         ),
         Target::Unread(unread) => Reached::Problem(Problem::Unread(unread)),
-    }
-}
-
-// The path of the file that words name: empty where they name none.
-pub fn path_of(text: &[u8]) -> &[u8]
-    ensures { λ r. ⌜ now r ≡ pathOf (now (text .entry)) ⌝ }
-{
-    match requests::request_of(text) {
-        Asked::Whole(request) => text::word(text, request.words.file),
-        Asked::Broken(_, _) => text::part(text, 0, 0),
     }
 }
 

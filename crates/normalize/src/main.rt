@@ -159,7 +159,7 @@ fn put_reply(page: &mut [u8], text: &[u8]) -> usize {
     }
     let mut space = [0u8; 262144];
     let bytes: &mut [u8] = &mut space;
-    let file = read_file(asking::path_of(text), bytes);
+    let file = read_file(targets::path_of(text), bytes);
     let reached = put_reached(page, 0, text, file, bytes);
     terminal::put_byte(page, reached, b'\n')
 }

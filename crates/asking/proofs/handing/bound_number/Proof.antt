@@ -1,11 +1,11 @@
--- `handing::bound_number` meets its contract: by whether a bound is given. Assumes nothing.
+-- `asking::handing::bound_number` meets its contract: by whether a bound is given. Assumes nothing.
 use native.Mathlib.Omega.{arith}
 use mathlib.Core.Path.{_∙_}
 use mir.Syntax.{w64}
 use mir.ValLaws.{toZ-pos}
 use borrow.Author.Needs.{needs}
-use Rattle.handing.proofs.bound_number.Statement.{statement}
-use Rattle.handing.proofs.bound_number.Tie as tie
+use Rattle.asking.proofs.handing.bound_number.Statement.{statement}
+use Rattle.asking.proofs.handing.bound_number.Tie as tie
 
 enum-told : tie.Need-enum-told
 enum-told c = search needs

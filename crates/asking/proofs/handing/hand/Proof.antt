@@ -1,10 +1,10 @@
--- `handing::hand` meets its contract: `normalize` is handed the numbers and the bytes that the request names. Assumes nothing.
+-- `asking::handing::hand` meets its contract: `normalize` is handed the numbers and the bytes that the request names. Assumes nothing.
 use mir.Syntax.{w32, w64}
 use mir.ValLaws.{toZ-ofZ}
-use Rattle.handing.specs.Handed.{handedTo}
+use Rattle.asking.specs.Handed.{handedTo}
 use borrow.Author.Needs.{needs}
-use Rattle.handing.proofs.hand.Statement.{statement}
-use Rattle.handing.proofs.hand.Tie as tie
+use Rattle.asking.proofs.handing.hand.Statement.{statement}
+use Rattle.asking.proofs.handing.hand.Tie as tie
 
 bound-number-requires : tie.Need-bound-number-requires
 bound-number-requires c κs = search needs

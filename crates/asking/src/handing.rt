@@ -3,7 +3,7 @@ ghost use mathlib.Core.Path.{_≡_};
 ghost use lib.ListN.{length};
 ghost use Rattle.definition.specs.Verdict.{verdict};
 ghost use Rattle.definition.specs.Reply.{Met};
-ghost use Rattle.handing.specs.Handed.{positionOf, boundNumber, handedTo};
+ghost use Rattle.asking.specs.Handed.{positionOf, boundNumber, handedTo};
 use definition::Outcome;
 use requests::Bound;
 use requests::Request;

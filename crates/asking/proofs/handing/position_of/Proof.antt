@@ -1,12 +1,12 @@
--- `handing::position_of` meets its contract: by whether the number has 31 bits. Assumes nothing.
+-- `asking::handing::position_of` meets its contract: by whether the number has 31 bits. Assumes nothing.
 use native.Mathlib.Omega.{arith}
 use mathlib.Core.Path.{_∙_}
 use mir.Syntax.{w32}
 use mir.ValLaws.{toZ-pos}
 use borrow.Author.Tests.{lt-ltb, le-ltb}
 use borrow.Author.Needs.{needs}
-use Rattle.handing.proofs.position_of.Statement.{statement}
-use Rattle.handing.proofs.position_of.Tie as tie
+use Rattle.asking.proofs.handing.position_of.Statement.{statement}
+use Rattle.asking.proofs.handing.position_of.Tie as tie
 
 returns : tie.Need-returns
 returns c = rw (lt-ltb 2147483647 (c .before .args .number) (c .if1 .taken))

@@ -1,10 +1,18 @@
--- `asking::path_of` meets its contract: by the request that the words make. Assumes nothing.
-use mathlib.Core.Path.{sym, ap, _∙_}
-use Rattle.asking.specs.Reached.{pathIn, pathOf}
-use Rattle.asking.proofs.Came.{no-path}
+-- `targets::path_of` meets its contract: by the request that the words make. Assumes nothing.
+use mathlib.Core.Path.{_≡_, sym, ap, _∙_}
+use mathlib.Core.List.{List, []}
+use Prim.Native.Nat.{ℕ}
+use native.Mathlib.Omega.{arith}
+use lib.ListN.{length}
+use borrow.Author.Tests.{le-ltb}
+use Rattle.text.specs.Text.{partOf}
+use Rattle.targets.specs.Paths.{pathIn, pathOf}
 use borrow.Author.Needs.{needs}
-use Rattle.asking.proofs.path_of.Statement.{statement}
-use Rattle.asking.proofs.path_of.Tie as tie
+use Rattle.targets.proofs.path_of.Statement.{statement}
+use Rattle.targets.proofs.path_of.Tie as tie
+
+no-path : (text : List ℕ) → partOf text 0 0 ≡ []
+no-path text = rw (le-ltb (length text) 0 (omega arith))
 
 request-of-requires : tie.Need-request-of-requires
 request-of-requires c κs = search needs
