@@ -124,6 +124,11 @@ fn raised(count: usize) -> usize
     count
 }
 
+// The bytes of a row from an index up to the next bar.
+fn field(row: &[u8], from: usize) -> &[u8] {
+    text::part(row, from, text::find(row, from, b'|'))
+}
+
 // Runs one row.
 fn run_row(
     page: &mut [u8],
@@ -134,15 +139,15 @@ fn run_row(
 ) -> Run
     ensures { λ r. ⌜ Ran (now (page .entry)) «so_far» (now (page .exit)) r ⌝ }
 {
-    let second = lines::next_field(row, 0);
-    let asked = lines::field(row, 0);
-    let expected = lines::field(row, second);
+    let second = text::after(row, 0, b'|');
+    let asked = field(row, 0);
+    let expected = field(row, second);
     let shown = put_row(
         page,
         so_far.used,
         asked,
         expected,
-        lines::field(row, lines::next_field(row, second)),
+        field(row, text::after(row, second, b'|')),
     );
     let mut space = [0u8; 4096];
     let answer: &mut [u8] = &mut space;
@@ -177,7 +182,7 @@ pub fn run_rows(
         let end = text::find(rows, from, b'\n');
         let row = text::part(rows, from, end);
         run = run_row(page, run, row, reference_room, alternative_room);
-        from = lines::next_row(rows, from);
+        from = text::after(rows, from, b'\n');
     }
     run
 }

@@ -58,7 +58,7 @@ fn put_rows(page: &mut [u8], used: usize, rows: &[u8]) -> usize
     while from < rows.len() {
         let end = text::find(rows, from, b'\n');
         count = put_row(page, count, text::part(rows, from, end));
-        from = lines::next_row(rows, from);
+        from = text::after(rows, from, b'\n');
     }
     count
 }

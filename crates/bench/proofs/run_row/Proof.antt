@@ -5,8 +5,8 @@ use borrow.Author.Needs.{needs}
 use Rattle.bench.proofs.run_row.Statement.{statement}
 use Rattle.bench.proofs.run_row.Tie as tie
 
-next-field-requires : tie.Need-next-field-requires
-next-field-requires c κs = search needs
+after-requires : tie.Need-after-requires
+after-requires c κs = search needs
 
 field-requires : tie.Need-field-requires
 field-requires c κs = search needs
@@ -14,8 +14,8 @@ field-requires c κs = search needs
 field-requires-2 : tie.Need-field-requires-2
 field-requires-2 c κs = search needs
 
-next-field-requires-2 : tie.Need-next-field-requires-2
-next-field-requires-2 c κs = search needs
+after-requires-2 : tie.Need-after-requires-2
+after-requires-2 c κs = search needs
 
 field-requires-3 : tie.Need-field-requires-3
 field-requires-3 c κs = search needs
@@ -72,10 +72,10 @@ pub run-row-spec : {M : Type 1} → statement M
 run-row-spec =
     tie.close
     (tie.spec
-    next-field-requires
+    after-requires
     field-requires
     field-requires-2
-    next-field-requires-2
+    after-requires-2
     field-requires-3
     put-row-requires
     slice-aggregate-answer
