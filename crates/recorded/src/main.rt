@@ -1,9 +1,12 @@
 // Replays stored answers: asks for each record's request again, names each record whose answer differs from the stored one, and counts the
 // records that agree. The answers are the Rust's; the program needs no Rust.
+mod records;
+mod replays;
+
 ghost use Prim.Native.Nat.{_≤_};
 ghost use lib.ListN.{length};
+use crate::replays::Compared;
 use libc::STDOUT_FILENO;
-use replays::Compared;
 
 // A record that was replayed: whether the file has the whole of it, whether its answer is the stored one, what was answered, and the place
 // behind it.

@@ -1,0 +1,3 @@
+-- What the contracts of `src/` cite. Assumes nothing.
+pub mod Format
+pub mod Replay

@@ -1,0 +1,91 @@
+-- What a replayed record is held to: the definition's reply to the record's request, each part of it beside the stored one. Assumes nothing.
+use Prim.Native.Nat.{ℕ}
+use mathlib.Core.Bool.{Bool, _&&_}
+use mathlib.Core.List.{List}
+use lib.Dec.{eqb}
+use lib.ListN.{length, replicate}
+use Rattle.definition.specs.declared.Outcome.{Outcome}
+use Rattle.definition.specs.declared.Outcome.the-variants as outcome
+use Rattle.definition.specs.Answer.{classNumber}
+use Rattle.definition.specs.Bases.{sameBases}
+use Rattle.definition.specs.Limits.{answerRoom}
+use Rattle.definition.specs.Request as definition
+use Rattle.definition.specs.Verdict.{verdict}
+use Rattle.definition.specs.Reply.{Reply, reply, refusalNumber, written}
+use Rattle.normalizer.specs.Asked.{asked}
+use Rattle.text.specs.Text.{partOf}
+use Rattle.recorded.specs.declared.replays.Compared.{Compared}
+use Rattle.recorded.specs.declared.records.Part.{Part}
+use Rattle.recorded.specs.declared.records.Request.{Request}
+use Rattle.recorded.specs.declared.replays.ReplyNumbers.{ReplyNumbers}
+use Rattle.recorded.specs.declared.records.Stored.{Stored}
+
+-- each buffer before a request: room for an answer, and no base in it
+unfoldable pub filled : List ℕ
+filled = replicate answerRoom 46
+
+abbrev pub partIn : List ℕ → Part → List ℕ
+partIn file part = partOf file (part .from) (part .to)
+
+-- what a record asks, with both buffers lent
+abbrev pub askedIn : List ℕ → Request → definition.Request
+askedIn file request =
+    let numbers = request .numbers in
+    asked (partIn file (request .target)) (numbers .kind) (partIn file (request .exons)) (numbers .«cds_start») (numbers .«cds_end») (numbers .start)
+    (numbers .end) (numbers .edit) (partIn file (request .alternative)) (numbers .direction) (numbers .window) answerRoom answerRoom
+
+-- the definition's reply to a record
+abbrev pub replyTo : List ℕ → Request → Reply
+replyTo file request = reply filled filled (verdict (askedIn file request))
+
+-- a buffer holds an allele of so many bases, and behind it what filled the buffer
+unfoldable pub holdsAllele : List ℕ → ℕ → List ℕ → Bool
+holdsAllele buffer size allele = eqb (length allele) size && sameBases buffer (written allele filled)
+
+-- the numbers that come back, and with both buffers the reply that they are
+unfoldable pub numbersOf : Outcome → ReplyNumbers
+numbersOf (outcome.Refuse x) = record {
+  refusal = refusalNumber x;
+  class = 0;
+  start = 0;
+  end = 0;
+  probes = 0;
+  «reference_size» = 0;
+  «alternative_size» = 0;
+}
+numbersOf (outcome.Answer a) = record {
+  refusal = 0;
+  class = classNumber (a .class);
+  start = a .start .0;
+  end = a .end .0;
+  probes = a .probes;
+  «reference_size» = a .«reference_size»;
+  «alternative_size» = a .«alternative_size»;
+}
+
+abbrev pub replyOf : ReplyNumbers → List ℕ → List ℕ → Reply
+replyOf numbers referenceBuffer alternativeBuffer = record {
+  refusal = numbers .refusal;
+  class = numbers .class;
+  start = numbers .start;
+  end = numbers .end;
+  probes = numbers .probes;
+  referenceSize = numbers .«reference_size»;
+  alternativeSize = numbers .«alternative_size»;
+  referenceBuffer = referenceBuffer;
+  alternativeBuffer = alternativeBuffer;
+}
+
+-- the refusal and the class of a reply, and for each thing stored whether the reply has the same
+abbrev pub comparedWith : List ℕ → Stored → Reply → Compared
+comparedWith file stored reply = record {
+  refusal = reply .refusal;
+  class = reply .class;
+  «same_refusal» = eqb (reply .refusal) (stored .refusal);
+  «same_class» = eqb (reply .class) (stored .class);
+  «same_start» = eqb (reply .start) (stored .start);
+  «same_end» = eqb (reply .end) (stored .end);
+  «same_probes» = eqb (reply .probes) (stored .probes);
+  «same_reference» = holdsAllele (reply .referenceBuffer) (reply .referenceSize) (partIn file (stored .reference));
+  «same_alternative» = holdsAllele (reply .alternativeBuffer) (reply .alternativeSize) (partIn file (stored .alternative));
+}

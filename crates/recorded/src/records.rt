@@ -1,0 +1,179 @@
+// The records of stored answers: where each part of a record lies among the file's bytes. Every length that the file gives is tested before it
+// ends a part.
+ghost use mathlib.Core.Path.{_≡_};
+ghost use Prim.Native.Nat.{_≤_};
+ghost use lib.ListN.{length};
+ghost use Rattle.recorded.specs.Format.{storedNumber, signedOf, signedLongOf, partAt, numbersAt, requestAt, storedAt};
+
+// The most bytes that a file may have.
+pub const MOST: usize = 524288;
+
+// The bytes of a file from one place up to another; `whole` is false where the file ends before them.
+pub struct Part {
+    pub whole: bool,
+    pub from: usize,
+    pub to: usize,
+}
+
+// The numbers of a request.
+pub struct Numbers {
+    pub kind: u32,
+    pub cds_start: i64,
+    pub cds_end: i64,
+    pub start: i32,
+    pub end: i32,
+    pub edit: u32,
+    pub direction: u32,
+    pub window: u32,
+}
+
+// The request of a record, and the place behind it.
+pub struct Request {
+    pub whole: bool,
+    pub target: Part,
+    pub exons: Part,
+    pub alternative: Part,
+    pub numbers: Numbers,
+    pub to: usize,
+}
+
+// The answer of a record, and the place behind it.
+pub struct Stored {
+    pub whole: bool,
+    pub refusal: u32,
+    pub class: u32,
+    pub start: u32,
+    pub end: u32,
+    pub probes: u32,
+    pub reference: Part,
+    pub alternative: Part,
+    pub to: usize,
+}
+
+fn wide(byte: u8) -> u32
+    ensures { λ r. ⌜ (r ≡ byte) × (r ≤ 255) ⌝ }
+{
+    byte as u32
+}
+
+// The number that four bytes spell, lowest first; 0 where the file ends before them.
+pub fn number(file: &[u8], at: usize) -> u32
+    ensures { λ r. ⌜ r ≡ storedNumber (now (file .entry)) at ⌝ }
+{
+    if file.len() < 4 {
+        return 0;
+    }
+    if file.len() - 4 < at {
+        return 0;
+    }
+    let low = wide(file[at]) + wide(file[at + 1]) * 256;
+    let high = wide(file[at + 2]) + wide(file[at + 3]) * 256;
+    low + high * 65536
+}
+
+// Four bytes as a number with a sign.
+fn signed(bits: u32) -> i32
+    ensures { λ r. ⌜ r ≡ signedOf bits ⌝ }
+{
+    if bits < 2147483648 {
+        return bits as i32;
+    }
+    !((4294967295 - bits) as i32)
+}
+
+// Eight bytes as a number with a sign, from their halves.
+fn signed_long(low: u32, high: u32) -> i64
+    ensures { λ r. ⌜ r ≡ signedLongOf low high ⌝ }
+{
+    let bits = low as u64 + high as u64 * 4294967296;
+    if bits < 9223372036854775808 {
+        return bits as i64;
+    }
+    !((18446744073709551615 - bits) as i64)
+}
+
+// The part whose length stands at a place.
+fn part_at(file: &[u8], at: usize) -> Part
+    ensures { λ r. ⌜ r ≡ partAt (now (file .entry)) at ⌝ }
+    ensures { λ r. ⌜ r .to ≤ length (now (file .entry)) ⌝ }
+{
+    let cut = Part {
+        whole: false,
+        from: 0,
+        to: 0,
+    };
+    if file.len() < 4 {
+        return cut;
+    }
+    if file.len() - 4 < at {
+        return cut;
+    }
+    let from = at + 4;
+    let size = number(file, at) as usize;
+    if file.len() - from < size {
+        return cut;
+    }
+    Part {
+        whole: true,
+        from: from,
+        to: from + size,
+    }
+}
+
+// The numbers of a request, which stand behind its target, its exon table and its alternative.
+fn numbers_at(file: &[u8], target_to: usize, exons_to: usize, alternative_to: usize) -> Numbers
+    requires { ⌜ («exons_to» ≤ 524288) × («alternative_to» ≤ 524288) ⌝ }
+    ensures { λ r. ⌜ r ≡ numbersAt (now (file .entry)) «target_to» «exons_to» «alternative_to» ⌝ }
+{
+    let at = exons_to;
+    Numbers {
+        kind: number(file, target_to),
+        cds_start: signed_long(number(file, at), number(file, at + 4)),
+        cds_end: signed_long(number(file, at + 8), number(file, at + 12)),
+        start: signed(number(file, at + 16)),
+        end: signed(number(file, at + 20)),
+        edit: number(file, at + 24),
+        direction: number(file, alternative_to),
+        window: number(file, alternative_to + 4),
+    }
+}
+
+// The request at a place of a file.
+pub fn request_at(file: &[u8], at: usize) -> Request
+    requires { ⌜ length (now file) ≤ 524288 ⌝ }
+    ensures { λ r. ⌜ r ≡ requestAt (now (file .entry)) at ⌝ }
+    ensures { λ r. ⌜ r .to ≤ 524296 ⌝ }
+{
+    let target = part_at(file, at);
+    let exons = part_at(file, target.to + 4);
+    let alternative = part_at(file, exons.to + 28);
+    Request {
+        whole: target.whole & exons.whole & alternative.whole,
+        target: target,
+        exons: exons,
+        alternative: alternative,
+        numbers: numbers_at(file, target.to, exons.to, alternative.to),
+        to: alternative.to + 8,
+    }
+}
+
+// The stored answer at a place of a file. It is whole only where its last part is.
+pub fn stored_at(file: &[u8], at: usize) -> Stored
+    requires { ⌜ (length (now file) ≤ 524288) × (at ≤ 524296) ⌝ }
+    ensures { λ r. ⌜ r ≡ storedAt (now (file .entry)) at ⌝ }
+    ensures { λ r. ⌜ r .to ≤ 524288 ⌝ }
+{
+    let reference = part_at(file, at + 20);
+    let alternative = part_at(file, reference.to);
+    Stored {
+        whole: reference.whole & alternative.whole,
+        refusal: number(file, at),
+        class: number(file, at + 4),
+        start: number(file, at + 8),
+        end: number(file, at + 12),
+        probes: number(file, at + 16),
+        reference: reference,
+        alternative: alternative,
+        to: alternative.to,
+    }
+}

@@ -1,4 +1,0 @@
--- What the proofs share. Assumes nothing.
-pub mod Held
-pub mod Replied
-pub mod Unique
