@@ -187,9 +187,9 @@ pub fn run_rows(
     run
 }
 
-// A page of 524,288 bytes has room for every row, with its answer.
+// A page of 131,072 bytes has room for every row, with its answer.
 fn main() {
-    let mut space = [0u8; 524288];
+    let mut space = [0u8; 131072];
     let page: &mut [u8] = &mut space;
     let run = rows::run(
         page,

@@ -164,22 +164,22 @@ fn put_reply(page: &mut [u8], text: &[u8]) -> usize {
     terminal::put_byte(page, reached, b'\n')
 }
 
-// What is said to the arguments. A page of 266,240 bytes has room for the longest of them, of fewer than 262,144 bytes, in a sentence.
+// What is said to the arguments. A page of 135,168 bytes has room for the longest of them, of fewer than 131,072 bytes, in a sentence.
 fn put_all(page: &mut [u8]) -> usize {
-    let mut space = [0u8; 262144];
+    let mut space = [0u8; 131072];
     let text: &mut [u8] = &mut space;
     match gather(text) {
         Gathered::Words(size) => put_reply(page, text::part(text, 0, size)),
         Gathered::TooLong => terminal::put(
             page,
             0,
-            b"The arguments have more than 262144 bytes. Give the target by --file.\n",
+            b"The arguments have more than 131072 bytes. Give the target by --file.\n",
         ),
     }
 }
 
 fn main() {
-    let mut space = [0u8; 266240];
+    let mut space = [0u8; 135168];
     let page: &mut [u8] = &mut space;
     let used = put_all(page);
     io::write_all(libc::STDOUT_FILENO, text::part(page, 0, used));
