@@ -1,7 +1,7 @@
 -- What --help prints. Assumes nothing.
 use Prim.Native.Nat.{ℕ}
 use mathlib.Core.List.{List, _++_}
-use Rattle.terminal.specs.Page.{ascii}
+use Rattle.text.specs.Text.{ascii}
 
 unfoldable pub usageText : List ℕ
 usageText =

@@ -20,7 +20,8 @@ use Rattle.definition.specs.declared.Refusal.the-variants.{
   VariantSpanOutsideSequenceBounds,
 }
 use Rattle.definition.specs.Reply.{refusalNumber}
-use Rattle.terminal.specs.Page.{ascii, decimalText}
+use Rattle.text.specs.Text.{ascii}
+use Rattle.terminal.specs.Page.{decimalText}
 
 unfoldable pub refusalName : Refusal → List ℕ
 refusalName BadCode = ascii "BadCode"

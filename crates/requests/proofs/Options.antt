@@ -4,9 +4,9 @@ use mathlib.Core.Path.{_≡_, sym, ap, _∙_}
 use mathlib.Core.List.{List}
 use borrow.Author.Tests.{eq-eqb, ne-eqb}
 use lib.ListN.{length}
-use Rattle.text.specs.Text.{wordAt, nextWordAt}
-use Rattle.names.specs.Words.{nameOf}
-use Rattle.names.specs.declared.Name.{Name}
+use Rattle.text.specs.Text.{wordAt, afterFound}
+use Rattle.requests.specs.Names.{nameOf}
+use Rattle.requests.specs.declared.names.Name.{Name}
 use Rattle.requests.specs.declared.Request.{Request}
 use Rattle.requests.specs.declared.Fault.the-variants.{UnknownOption, NoValue}
 use Rattle.requests.specs.declared.Step.{Step}
@@ -26,20 +26,20 @@ module _ (text : List ℕ) (at : ℕ) {word : List ℕ} {name : Name} {values : 
     unfolding withNext
     unknown none = rw (eq-eqb _ _ (sym counted ∙ none))
 
-    module _ (known : values ≡ 0 → ⊥) {value : ℕ} (is-value : value ≡ nextWordAt text at) where
+    module _ (known : values ≡ 0 → ⊥) {value : ℕ} (is-value : value ≡ afterFound text at 0) where
       pub no-value : value ≡ length text → Wrong NoValue ≡ withNext asked text at
       unfolding withNext
       no-value end = rw (ne-eqb _ _ (λ e. known (counted ∙ e)), eq-eqb _ _ (sym is-value ∙ end))
 
-      pub taken : (value ≡ length text → ⊥) → {next : ℕ} {first second : List ℕ} {step : Step} → first ≡ wordAt text value → next ≡ nextWordAt text value
+      pub taken : (value ≡ length text → ⊥) → {next : ℕ} {first second : List ℕ} {step : Step} → first ≡ wordAt text value → next ≡ afterFound text value 0
           → second ≡ wordAt text next → step ≡ withOption asked name first second value → step ≡ withNext asked text at
       unfolding withNext
       taken inside is-first is-next is-second is-step =
           is-step
           ∙ rw (is-first, is-second, is-next, named, is-value, ne-eqb _ _ (λ e. known (counted ∙ e)), ne-eqb _ _ (λ e. inside (is-value ∙ e)))
 
-  module _ {value behind : ℕ} (is-value : value ≡ nextWordAt text at) (is-behind : behind ≡ nextWordAt text value) where
-    pub after-two : values ≡ 2 → {last : ℕ} → last ≡ nextWordAt text behind → last ≡ afterOption text at
+  module _ {value behind : ℕ} (is-value : value ≡ afterFound text at 0) (is-behind : behind ≡ afterFound text value 0) where
+    pub after-two : values ≡ 2 → {last : ℕ} → last ≡ afterFound text behind 0 → last ≡ afterOption text at
     after-two two is-last = is-last ∙ rw (is-behind, is-value, eq-eqb _ _ (sym counted ∙ two))
 
     pub after-one : (values ≡ 2 → ⊥) → behind ≡ afterOption text at

@@ -5,10 +5,10 @@ use mathlib.Core.List.{List}
 use lib.Dec.{eqb, ltb}
 use lib.ListN.{length}
 use Rattle.decimals.specs.Decimal.{decimalOf}
-use Rattle.text.specs.Text.{wordAt, nextWordAt}
-use Rattle.names.specs.Words.{nameOf, kindCode, editCode, directionCode}
-use Rattle.names.specs.declared.Name.{Name}
-use Rattle.names.specs.declared.Name.the-variants.{Target, File, Exons, Alternative, Kind, Edit, Direction, Window, CdsStart, CdsEnd, Cds, Range, Unknown}
+use Rattle.text.specs.Text.{wordAt, afterFound}
+use Rattle.requests.specs.Names.{nameOf, kindCode, editCode, directionCode}
+use Rattle.requests.specs.declared.names.Name.{Name}
+use Rattle.requests.specs.declared.names.Name.the-variants.{Target, File, Exons, Alternative, Kind, Edit, Direction, Window, CdsStart, CdsEnd, Cds, Range, Unknown}
 use Rattle.requests.specs.declared.Request.{Request}
 use Rattle.requests.specs.declared.Fault.the-variants.{UnknownOption, NoValue}
 use Rattle.requests.specs.declared.Step.{Step}
@@ -53,16 +53,16 @@ valuesOf Unknown = 0
 unfoldable pub withNext : Request → List ℕ → ℕ → Step
 withNext asked text at =
     let name = nameOf (wordAt text at) in
-    let value = nextWordAt text at in
+    let value = afterFound text at 0 in
     cond (eqb (valuesOf name) 0) (Wrong UnknownOption)
     (cond (eqb value (length text)) (Wrong NoValue)
-    (withOption asked name (wordAt text value) (wordAt text (nextWordAt text value)) value))
+    (withOption asked name (wordAt text value) (wordAt text (afterFound text value 0)) value))
 
 -- where the option after it begins
 abbrev pub afterOption : List ℕ → ℕ → ℕ
 afterOption text at =
-    let behind = nextWordAt text (nextWordAt text at) in
-    cond (eqb (valuesOf (nameOf (wordAt text at))) 2) (nextWordAt text behind) behind
+    let behind = afterFound text (afterFound text at 0) 0 in
+    cond (eqb (valuesOf (nameOf (wordAt text at))) 2) (afterFound text behind 0) behind
 
 -- a wrong option ends the reading, with where it begins
 abbrev pub goingOn : Step → ℕ → (Request → Asked) → Asked

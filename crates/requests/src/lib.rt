@@ -1,4 +1,6 @@
 // A request as words give it: an option's name, then its values. The words are those of a command line, each ended by a byte 0.
+mod names;
+
 ghost use mathlib.Core.Path.{_≡_};
 ghost use Prim.Native.Nat.{_+_, _≤_, min};
 ghost use lib.ListN.{length};
@@ -263,11 +265,11 @@ fn with_next(asked: Request, text: &[u8], at: usize) -> Step
     if values_of(name) == 0 {
         return Step::Wrong(Fault::UnknownOption);
     }
-    let value = text::next_word(text, at);
+    let value = text::after(text, at, 0);
     if value == text.len() {
         return Step::Wrong(Fault::NoValue);
     }
-    let other = text::word(text, text::next_word(text, value));
+    let other = text::word(text, text::after(text, value, 0));
     with_option(asked, name, text::word(text, value), other, value)
 }
 
@@ -277,9 +279,9 @@ fn after_option(text: &[u8], at: usize) -> usize
     ensures { λ r. ⌜ (r ≤ length (now (text .entry))) × (min (at + 1) (length (now (text .entry))) ≤ r) ⌝ }
 {
     let name = names::name_of(text::word(text, at));
-    let behind = text::next_word(text, text::next_word(text, at));
+    let behind = text::after(text, text::after(text, at, 0), 0);
     if values_of(name) == 2 {
-        return text::next_word(text, behind);
+        return text::after(text, behind, 0);
     }
     behind
 }

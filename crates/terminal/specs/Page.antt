@@ -1,8 +1,6 @@
 -- A page of text: a lent buffer, and how many of its bytes are used. Text goes behind what the page holds; what does not fit is cut at the
 -- page's end, and nothing else changes. Assumes nothing.
 use Prim.Native.Nat.{ℕ, zero, suc, _+_, _-_, _/_, _%_, max}
-use Prim.Native.Char.{code}
-use Prim.Native.String.{String, [] as end, _∷_ as _then_}
 use mathlib.Core.Path.{_≡_}
 use mathlib.Core.Bool.{cond}
 use mathlib.Core.List.{List, [], _∷_, _++_}
@@ -34,11 +32,6 @@ pub record Put (before : List ℕ) (used : ℕ) (text after : List ℕ) (count :
 pub record Added (before : List ℕ) (used : ℕ) (after : List ℕ) (count : ℕ) : Type 0 where
   pub text : List ℕ
   pub put : Put before used text after count
-
--- the bytes of a text that is written in ASCII
-abbrev pub ascii : String → List ℕ
-ascii end = []
-ascii (c then text) = code c ∷ ascii text
 
 -- the decimal digits of a number that has at most so many: those of its tenth, and the last one
 unfoldable pub digitsIn : ℕ → ℕ → List ℕ

@@ -7,7 +7,6 @@ use Rattle.text.proofs.part.Reads as part
 use Rattle.text.proofs.find.Reads as find
 use Rattle.text.proofs.after.Reads as after
 use Rattle.text.proofs.word.Reads as word
-use Rattle.text.proofs.next_word.Reads as next-word
 use Rattle.text.proofs.line.Reads as line
 
 -- every byte of a part
@@ -22,9 +21,6 @@ after-one κs a x y atX atY p q = p .0 ∙ sym (q .0)
 
 pub word-one : Fixes (λ κs x at. now x) word.Post
 word-one κs a x y atX atY p q = p ∙ sym q
-
-pub next-word-one : Fixes (λ κs x at. x) next-word.Post
-next-word-one κs a x y atX atY p q = p .0 ∙ sym (q .0)
 
 pub line-one : Fixes (λ κs x at. now x) line.Post
 line-one κs a x y atX atY p q = p .is ∙ sym (q .is)

@@ -1,11 +1,18 @@
 -- Parts, words and lines of a text. Assumes nothing.
 use Prim.Native.Nat.{ℕ, zero, suc, _+_, _-_, min}
+use Prim.Native.Char.{code}
+use Prim.Native.String.{String, [] as end, _∷_ as _then_}
 use mathlib.Core.Path.{_≡_}
 use mathlib.Core.Bool.{cond}
 use mathlib.Core.List.{List, [], _∷_}
 use lib.Dec.{ltb, eqb}
 use lib.ListN.{length, take, drop}
 use Rattle.bytes.specs.Bytes.{indexOf, slice}
+
+-- the bytes of a text that is written in ASCII
+abbrev pub ascii : String → List ℕ
+ascii end = []
+ascii (c then text) = code c ∷ ascii text
 
 -- the bytes from one index up to another; none where they don't lie in the text in this order
 abbrev pub partOf : List ℕ → ℕ → ℕ → List ℕ
@@ -31,10 +38,6 @@ partsAt byte (x ∷ xs) = cond (eqb x byte) ([] ∷ partsAt byte xs) (onFirst x 
 -- the word that begins at an index, up to the byte 0 that ends it
 abbrev pub wordAt : List ℕ → ℕ → List ℕ
 wordAt text from = partOf text from (foundAt text from 0)
-
--- where the word after it begins: the text's end where there is none
-abbrev pub nextWordAt : List ℕ → ℕ → ℕ
-nextWordAt text from = afterFound text from 0
 
 -- the line of a number, which counts from 0, without its line end, 10: empty where the text has no such line
 unfoldable pub lineOf : ℕ → List ℕ → List ℕ

@@ -2,7 +2,7 @@
 ghost use mathlib.Core.Path.{_≡_};
 ghost use Prim.Native.Nat.{_+_, _≤_, min};
 ghost use lib.ListN.{length};
-ghost use Rattle.text.specs.Text.{partOf, foundAt, afterFound, wordAt, nextWordAt, Line};
+ghost use Rattle.text.specs.Text.{partOf, foundAt, afterFound, wordAt, Line};
 
 // The bytes from one index up to another; none where they don't lie in the text in this order.
 pub fn part(text: &[u8], from: usize, to: usize) -> &[u8]
@@ -45,14 +45,6 @@ pub fn after(text: &[u8], from: usize, byte: u8) -> usize
         return at + 1;
     }
     text.len()
-}
-
-// Where the word after it begins: the text's end where there is none.
-pub fn next_word(text: &[u8], from: usize) -> usize
-    ensures { λ r. ⌜ r ≡ nextWordAt (now (text .entry)) from ⌝ }
-    ensures { λ r. ⌜ (r ≤ length (now (text .entry))) × (min (from + 1) (length (now (text .entry))) ≤ r) ⌝ }
-{
-    after(text, from, 0)
 }
 
 // The line of a number, which counts from 0: empty where the text has no such line.

@@ -5,7 +5,8 @@ use mathlib.Core.List.{List, _++_}
 use lib.Dec.{eqb}
 use Rattle.definition.specs.declared.Class.{Class}
 use Rattle.definition.specs.declared.Class.the-variants.{Insertion, Duplication, Deletion, Replacement, Inversion, Unchanged}
-use Rattle.terminal.specs.Page.{ascii, decimalText}
+use Rattle.text.specs.Text.{ascii}
+use Rattle.terminal.specs.Page.{decimalText}
 use Rattle.text.specs.Text.{partOf}
 
 unfoldable pub className : Class → List ℕ

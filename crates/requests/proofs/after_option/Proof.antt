@@ -11,17 +11,17 @@ word-requires c κs = search needs
 name-of-requires : tie.Need-name-of-requires
 name-of-requires c κs = search needs
 
-next-word-requires : tie.Need-next-word-requires
-next-word-requires c κs = search needs
+after-requires : tie.Need-after-requires
+after-requires c κs = search needs
 
-next-word-requires-2 : tie.Need-next-word-requires-2
-next-word-requires-2 c κs = search needs
+after-requires-2 : tie.Need-after-requires-2
+after-requires-2 c κs = search needs
 
 values-of-requires : tie.Need-values-of-requires
 values-of-requires c κs = search needs
 
-next-word-requires-3 : tie.Need-next-word-requires-3
-next-word-requires-3 c κs = search needs
+after-requires-3 : tie.Need-after-requires-3
+after-requires-3 c κs = search needs
 
 returns : tie.Need-returns
 returns c =
@@ -29,8 +29,8 @@ returns c =
     let value = values .before .before in
     let word = value .before .before in
     let start = word .before .before in
-    let after = after-two (start .args .text .now) (start .args .at) (word .word .ensures) (value .before .name-of .ensures) (values .values-of .ensures) (value .next-word .ensures .0) (values .before .next-word2 .ensures .0) (c .before .if1 .taken) (c .next-word3 .ensures .0) in
-    (after, (omega arith, omega arith))
+    let next = after-two (start .args .text .now) (start .args .at) (word .word .ensures) (value .before .name-of .ensures) (values .values-of .ensures) (value .after .ensures .0) (values .before .after2 .ensures .0) (c .before .if1 .taken) (c .after3 .ensures .0) in
+    (next, (omega arith, omega arith))
 
 returns-2 : tie.Need-returns-2
 returns-2 c =
@@ -38,8 +38,8 @@ returns-2 c =
     let value = values .before .before in
     let word = value .before .before in
     let start = word .before .before in
-    let after = after-one (start .args .text .now) (start .args .at) (word .word .ensures) (value .before .name-of .ensures) (values .values-of .ensures) (value .next-word .ensures .0) (values .before .next-word2 .ensures .0) (c .if1 .left) in
-    (after, (omega arith, omega arith))
+    let next = after-one (start .args .text .now) (start .args .at) (word .word .ensures) (value .before .name-of .ensures) (values .values-of .ensures) (value .after .ensures .0) (values .before .after2 .ensures .0) (c .if1 .left) in
+    (next, (omega arith, omega arith))
 
 pub after-option-spec : {M : Type 1} → statement M
 after-option-spec =
@@ -47,9 +47,9 @@ after-option-spec =
     (tie.spec
     word-requires
     name-of-requires
-    next-word-requires
-    next-word-requires-2
+    after-requires
+    after-requires-2
     values-of-requires
-    next-word-requires-3
+    after-requires-3
     returns
     returns-2)

@@ -19,18 +19,18 @@ returns c =
     let start = word .before .before in
     unknown (start .args .text .now) (start .args .at) (word .word .ensures) (c .before .before .name-of .ensures) (c .before .values-of .ensures) _ (c .if1 .taken)
 
-next-word-requires : tie.Need-next-word-requires
-next-word-requires c κs = search needs
+after-requires : tie.Need-after-requires
+after-requires c κs = search needs
 
 returns-2 : tie.Need-returns-2
 returns-2 c =
     let values = c .before .before .before in
     let word = values .before .before in
     let start = word .before .before in
-    no-value (start .args .text .now) (start .args .at) (word .word .ensures) (values .before .name-of .ensures) (values .values-of .ensures) _ (c .before .before .if1 .left) (c .before .next-word .ensures .0) (c .if2 .taken)
+    no-value (start .args .text .now) (start .args .at) (word .word .ensures) (values .before .name-of .ensures) (values .values-of .ensures) _ (c .before .before .if1 .left) (c .before .after .ensures .0) (c .if2 .taken)
 
-next-word-requires-2 : tie.Need-next-word-requires-2
-next-word-requires-2 c κs = search needs
+after-requires-2 : tie.Need-after-requires-2
+after-requires-2 c κs = search needs
 
 word-requires-2 : tie.Need-word-requires-2
 word-requires-2 c κs = search needs
@@ -47,7 +47,7 @@ returns-3 c =
     let values = value .before .before in
     let word = values .before .before in
     let start = word .before .before in
-    taken (start .args .text .now) (start .args .at) (word .word .ensures) (values .before .name-of .ensures) (values .values-of .ensures) _ (value .before .if1 .left) (value .next-word .ensures .0) (c .before .before .before .before .if2 .left) (c .before .word3 .ensures) (c .before .before .before .next-word2 .ensures .0) (c .before .before .word2 .ensures) (c .with-option .ensures)
+    taken (start .args .text .now) (start .args .at) (word .word .ensures) (values .before .name-of .ensures) (values .values-of .ensures) _ (value .before .if1 .left) (value .after .ensures .0) (c .before .before .before .before .if2 .left) (c .before .word3 .ensures) (c .before .before .before .after2 .ensures .0) (c .before .before .word2 .ensures) (c .with-option .ensures)
 
 pub with-next-spec : {M : Type 1} → statement M
 with-next-spec =
@@ -57,9 +57,9 @@ with-next-spec =
     name-of-requires
     values-of-requires
     returns
-    next-word-requires
+    after-requires
     returns-2
-    next-word-requires-2
+    after-requires-2
     word-requires-2
     word-requires-3
     with-option-requires

@@ -4,11 +4,11 @@ ghost use Prim.Native.Nat.{_<_};
 ghost use lib.ListN.{length};
 ghost use Rattle.definition.specs.Bases.{sameBases};
 ghost use Rattle.text.specs.Text.{partsAt};
-ghost use Rattle.names.specs.Words.{placeIn, optionAt, nameOf, kindCode, editCode, directionCode};
+ghost use Rattle.requests.specs.Names.{placeIn, optionAt, nameOf, kindCode, editCode, directionCode};
 use decimals::Number;
 
 // The options, by name.
-pub enum Name {
+pub(crate) enum Name {
     Target,
     File,
     Exons,
@@ -73,7 +73,7 @@ fn option_at(place: u32) -> Name
     }
 }
 
-pub fn name_of(word: &[u8]) -> Name
+pub(crate) fn name_of(word: &[u8]) -> Name
     ensures { λ r. ⌜ r ≡ nameOf (now (word .entry)) ⌝ }
 {
     match line_of(
@@ -97,19 +97,19 @@ pub fn name_of(word: &[u8]) -> Name
 }
 
 // The codes of kinds, edits and directions count from 0 in the order of their words.
-pub fn kind_code(word: &[u8]) -> Number
+pub(crate) fn kind_code(word: &[u8]) -> Number
     ensures { λ r. ⌜ r ≡ kindCode (now (word .entry)) ⌝ }
 {
     line_of(word, b"open\ntranscript\ncrossing")
 }
 
-pub fn edit_code(word: &[u8]) -> Number
+pub(crate) fn edit_code(word: &[u8]) -> Number
     ensures { λ r. ⌜ r ≡ editCode (now (word .entry)) ⌝ }
 {
     line_of(word, b"ins\ndup\ndel\nreplace\ninv")
 }
 
-pub fn direction_code(word: &[u8]) -> Number
+pub(crate) fn direction_code(word: &[u8]) -> Number
     ensures { λ r. ⌜ r ≡ directionCode (now (word .entry)) ⌝ }
 {
     line_of(word, b"right\nleft")

@@ -1,12 +1,12 @@
--- `names::name_of` meets its contract: the words are the table's, in its order, and a row says what its word means. Assumes nothing.
+-- `requests::names::name_of` meets its contract: the words are the table's, in its order, and a row says what its word means. Assumes nothing.
 use mathlib.Core.Path.{_∙_}
 use borrow.Author.Needs.{needs}
 use Rattle.text.specs.Text.{partsAt}
-use Rattle.names.specs.Words.{options}
-use Rattle.names.specs.declared.Name.the-variants.{Unknown}
-use Rattle.names.proofs.Rows.{wordsOf, in-row, in-none}
-use Rattle.names.proofs.name_of.Statement.{statement}
-use Rattle.names.proofs.name_of.Tie as tie
+use Rattle.requests.specs.Names.{options}
+use Rattle.requests.specs.declared.names.Name.the-variants.{Unknown}
+use Rattle.requests.proofs.Rows.{wordsOf, in-row, in-none}
+use Rattle.requests.proofs.names.name_of.Statement.{statement}
+use Rattle.requests.proofs.names.name_of.Tie as tie
 
 slice-aggregate-line-of : tie.Need-slice-aggregate-line-of
 slice-aggregate-line-of c = search needs

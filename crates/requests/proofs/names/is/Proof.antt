@@ -1,8 +1,8 @@
--- `names::is` meets its contract: two words are one exactly if they are the same byte for byte. Assumes nothing.
+-- `requests::names::is` meets its contract: two words are one exactly if they are the same byte for byte. Assumes nothing.
 use borrow.Author.Needs.{needs}
-use Rattle.names.proofs.Rows.{same-says}
-use Rattle.names.proofs.is.Statement.{statement}
-use Rattle.names.proofs.is.Tie as tie
+use Rattle.requests.proofs.Rows.{same-says}
+use Rattle.requests.proofs.names.is.Statement.{statement}
+use Rattle.requests.proofs.names.is.Tie as tie
 
 same-requires : tie.Need-same-requires
 same-requires c κs = search needs

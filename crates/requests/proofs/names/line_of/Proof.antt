@@ -1,4 +1,4 @@
--- `names::line_of` meets its contract. The invariant: the word's place is its place among the lines left, counted on. The measure is the bytes left.
+-- `requests::names::line_of` meets its contract. The invariant: the word's place is its place among the lines left, counted on. The measure is the bytes left.
 -- Assumes nothing.
 use Prim.Native.Nat.{_≤_, _+_, _-_}
 use mathlib.Core.Path.{_≡_, refl}
@@ -6,10 +6,10 @@ use native.Mathlib.Omega.{arith}
 use borrow.Author.Needs.{needs}
 use lib.ListN.{length, drop}
 use Rattle.text.specs.Text.{partsAt}
-use Rattle.names.specs.Words.{placeIn}
-use Rattle.names.proofs.Places.{found, last, next}
-use Rattle.names.proofs.line_of.Statement.{statement}
-use Rattle.names.proofs.line_of.Tie as tie
+use Rattle.requests.specs.Names.{placeIn}
+use Rattle.requests.proofs.Places.{found, last, next}
+use Rattle.requests.proofs.names.line_of.Statement.{statement}
+use Rattle.requests.proofs.names.line_of.Tie as tie
 
 abbrev Inv-loop : tie.InvT-loop
 Inv-loop word lines from₀ place₀ from place =

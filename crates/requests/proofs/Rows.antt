@@ -9,11 +9,11 @@ use mathlib.Core.Bool.{Bool, true, false, false≢true}
 use mathlib.Core.List.{List, [], _∷_}
 use Rattle.definition.specs.Bases.{sameBases}
 use Rattle.definition.proofs.Tests.{same-equal, same-refl}
-use Rattle.terminal.specs.Page.{ascii}
+use Rattle.text.specs.Text.{ascii}
 use lib.ListN.{length}
 use Rattle.decimals.specs.declared.Number.{Number}
 use Rattle.decimals.specs.declared.Number.the-variants.{Is, Bad}
-use Rattle.names.specs.Words.{meaning, placeIn, rowAt}
+use Rattle.requests.specs.Names.{meaning, placeIn, rowAt}
 
 pub same-says : (said : Bool) (xs ys : List ℕ) → (said ≡ true → xs ≡ ys) → (xs ≡ ys → said ≡ true) → said ≡ sameBases xs ys
 same-says true xs ys equal same = sym (ap (sameBases xs) (sym (equal refl)) ∙ same-refl xs)

@@ -1,9 +1,9 @@
--- `names::kind_code` meets its contract: the words are the table's, in its order. Assumes nothing.
+-- `requests::names::kind_code` meets its contract: the words are the table's, in its order. Assumes nothing.
 use borrow.Author.Needs.{needs}
 use Rattle.text.specs.Text.{partsAt}
-use Rattle.names.specs.Words.{meaning, placeIn}
-use Rattle.names.proofs.kind_code.Statement.{statement}
-use Rattle.names.proofs.kind_code.Tie as tie
+use Rattle.requests.specs.Names.{meaning, placeIn}
+use Rattle.requests.proofs.names.kind_code.Statement.{statement}
+use Rattle.requests.proofs.names.kind_code.Tie as tie
 
 slice-aggregate-line-of : tie.Need-slice-aggregate-line-of
 slice-aggregate-line-of c = search needs

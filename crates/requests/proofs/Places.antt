@@ -8,7 +8,7 @@ use Rattle.definition.specs.Bases.{sameBases}
 use Rattle.text.specs.Text.{partOf, foundAt, partsAt}
 use Rattle.text.proofs.Splits.{parted, last-part, next-part}
 use Rattle.decimals.specs.declared.Number.the-variants.{Is, Bad}
-use Rattle.names.specs.Words.{placeIn}
+use Rattle.requests.specs.Names.{placeIn}
 
 module _ (lines word : List ℕ) (from place : ℕ) (held : placeIn 0 (partsAt 10 lines) word ≡ placeIn place (partsAt 10 (drop from lines)) word)
     (h : from ≤ length lines) {end : ℕ} {part : List ℕ} (is-end : end ≡ foundAt lines from 10) (within : end ≤ length lines)

@@ -1,10 +1,10 @@
--- `names::option_at` meets its contract: each number is a row of the table, and any other is none. Assumes nothing.
+-- `requests::names::option_at` meets its contract: each number is a row of the table, and any other is none. Assumes nothing.
 use native.Mathlib.Omega.{arith}
-use Rattle.names.specs.Words.{options, rowAt}
-use Rattle.names.specs.declared.Name.the-variants.{Unknown}
-use Rattle.names.proofs.Rows.{past-rows, more}
-use Rattle.names.proofs.option_at.Statement.{statement}
-use Rattle.names.proofs.option_at.Tie as tie
+use Rattle.requests.specs.Names.{options, rowAt}
+use Rattle.requests.specs.declared.names.Name.the-variants.{Unknown}
+use Rattle.requests.proofs.Rows.{past-rows, more}
+use Rattle.requests.proofs.names.option_at.Statement.{statement}
+use Rattle.requests.proofs.names.option_at.Tie as tie
 
 returns : tie.Need-returns
 unfolding rowAt
