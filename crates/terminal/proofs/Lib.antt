@@ -1,4 +1,4 @@
 -- What the proofs share. Assumes nothing.
 pub mod Pages
-pub mod Shown
+pub mod Digits
 pub mod Unique

@@ -28,13 +28,15 @@ pub fn put(page: &mut [u8], used: usize, text: &[u8]) -> usize
     count
 }
 
-// A number as a decimal.
+// A number as a decimal: the digits of its tenth, then the last one.
 pub fn put_number(page: &mut [u8], used: usize, number: usize) -> usize
     ensures { λ r. ⌜ Put (now (page .entry)) used (decimalText number) (now (page .exit)) r ⌝ }
 {
-    let mut digits = [0u8; 20];
-    let size = io::decimal(number as u64, &mut digits);
-    put(page, used, &digits[..size])
+    if number < 10 {
+        return put_byte(page, used, b'0' + number as u8);
+    }
+    let count = put_number(page, used, number / 10);
+    put_byte(page, count, b'0' + (number % 10) as u8)
 }
 
 // So many of one byte.
