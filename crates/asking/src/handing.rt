@@ -29,7 +29,7 @@ fn bound_number(bound: Bound) -> i64
 }
 
 // A request is handed on, with its target and its exon table.
-pub fn hand(
+pub(crate) fn hand(
     text: &[u8],
     request: Request,
     start: u32,
