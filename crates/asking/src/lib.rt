@@ -65,6 +65,13 @@ fn ask_on_target(
     }
 }
 
+// Room for the letters of a target.
+fn target_room() -> [u8; 65536]
+    ensures { λ r. ⌜ length r ≡ 65536 ⌝ }
+{
+    [0; 65536]
+}
+
 // A request that names an edit, from a start to an end.
 fn ask_on_range(
     text: &[u8],
@@ -81,7 +88,7 @@ fn ask_on_range(
         (length (now («reference_out» .entry))) (length (now («alternative_out» .entry))))
         r (now («reference_out» .entry)) (now («reference_out» .exit)) (now («alternative_out» .entry)) (now («alternative_out» .exit)) ⌝ }
 {
-    let mut space = [0u8; 65536];
+    let mut space = target_room();
     let target: &mut [u8] = &mut space;
     match targets::read(
         text,

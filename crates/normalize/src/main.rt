@@ -2,6 +2,8 @@
 mod table;
 mod usage;
 
+ghost use mathlib.Core.Path.{_≡_};
+ghost use lib.ListN.{length};
 use asking::Reached;
 use definition::Answered;
 use definition::Outcome;
@@ -152,21 +154,35 @@ fn put_reached(page: &mut [u8], used: usize, text: &[u8], file: File, bytes: &[u
     }
 }
 
+// Room for the bytes of a file.
+fn file_room() -> [u8; 262144]
+    ensures { λ r. ⌜ 262144 ≡ length r ⌝ }
+{
+    [0; 262144]
+}
+
 // What is said to words: the table where there is none. A file that they name may have 262,144 bytes.
 fn put_reply(page: &mut [u8], text: &[u8]) -> usize {
     if text.len() == 0 {
         return table::put_table(page, 0);
     }
-    let mut space = [0u8; 262144];
+    let mut space = file_room();
     let bytes: &mut [u8] = &mut space;
     let file = read_file(targets::path_of(text), bytes);
     let reached = put_reached(page, 0, text, file, bytes);
     terminal::put_byte(page, reached, b'\n')
 }
 
-// What is said to the arguments. A page of 135,168 bytes has room for the longest of them, of fewer than 131,072 bytes, in a sentence.
+// Room for the arguments.
+fn words_room() -> [u8; 131072]
+    ensures { λ r. ⌜ 131072 ≡ length r ⌝ }
+{
+    [0; 131072]
+}
+
+// What is said to the arguments.
 fn put_all(page: &mut [u8]) -> usize {
-    let mut space = [0u8; 131072];
+    let mut space = words_room();
     let text: &mut [u8] = &mut space;
     match gather(text) {
         Gathered::Words(size) => put_reply(page, text::part(text, 0, size)),
@@ -178,8 +194,15 @@ fn put_all(page: &mut [u8]) -> usize {
     }
 }
 
+// A page that has room for the longest argument, of fewer than 131,072 bytes, in a sentence.
+fn page_room() -> [u8; 135168]
+    ensures { λ r. ⌜ 135168 ≡ length r ⌝ }
+{
+    [0; 135168]
+}
+
 fn main() {
-    let mut space = [0u8; 135168];
+    let mut space = page_room();
     let page: &mut [u8] = &mut space;
     let used = put_all(page);
     io::write_all(libc::STDOUT_FILENO, text::part(page, 0, used));

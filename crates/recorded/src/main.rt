@@ -3,6 +3,7 @@
 mod records;
 mod replays;
 
+ghost use mathlib.Core.Path.{_≡_};
 ghost use Prim.Native.Nat.{_≤_};
 ghost use lib.ListN.{length};
 use crate::replays::Compared;
@@ -198,7 +199,20 @@ fn replay_file(file: &[u8]) {
     say_totals(replay_all(file));
 }
 
-// One byte more is read than a file may have, so that a longer one shows.
+// The file behind a descriptor, read into the space that is lent and replayed.
+fn replay_from(fd: i32, space: &mut [u8]) {
+    let size = io::read_full(fd, space);
+    libc::close(fd);
+    replay_file(text::part(space, 0, size));
+}
+
+// Room for a file, with one byte more than it may have, so that a longer one shows.
+fn room() -> [u8; 524289]
+    ensures { λ r. ⌜ 524289 ≡ length r ⌝ }
+{
+    [0; 524289]
+}
+
 fn main() {
     let path = b"answers";
     let fd = os::open_read(path);
@@ -207,8 +221,6 @@ fn main() {
         say(b"The file answers cannot be read.\n");
         return;
     }
-    let mut file = [0u8; 524289];
-    let size = io::read_full(fd, &mut file);
-    libc::close(fd);
-    replay_file(&file[..size]);
+    let mut space = room();
+    replay_from(fd, &mut space);
 }

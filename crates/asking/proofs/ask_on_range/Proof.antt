@@ -1,14 +1,15 @@
 -- `asking::ask_on_range` meets its contract: by what the target comes to; its letters stand at the front of the buffer. Assumes nothing.
-use Prim.Native.Nat.{ℕ}
 use mathlib.Core.Path.{refl}
-use lib.ListN.{length-replicate}
 use Rattle.asking.proofs.Came.{stops, unread, with-letters}
 use borrow.Author.Needs.{needs}
 use Rattle.asking.proofs.ask_on_range.Statement.{statement}
 use Rattle.asking.proofs.ask_on_range.Tie as tie
 
+target-room-requires : tie.Need-target-room-requires
+target-room-requires c κs = search needs
+
 slice-aggregate-target : tie.Need-slice-aggregate-target
-slice-aggregate-target c = length-replicate {A = ℕ} 65536 0
+slice-aggregate-target c = search needs
 
 read-requires : tie.Need-read-requires
 read-requires c κs = search needs
@@ -33,22 +34,24 @@ same-length-2 c = search needs
 
 returns : tie.Need-returns
 returns c =
-    let at = c .before .before .before .before .before .before .before .before .before .before .before .before .before .before .before .before .before .before .before .before .before .before .args in
+    let s = c .before .before .before .before .before .before .before .before .before .before .before .before .before .before .before .before .before .before in
+    let at = s .before .before .before .before .before .args in
     let read = c .before .before .before .before .before .before .before .before .before .before .before .before .before .before .before .read .ensures in
-    let long = length-replicate {A = ℕ} 65536 0 in
+    let long = s .target-room .ensures in
     with-letters (at .text .now) (at .request) (at .start) (at .end) (at .file) (at .bytes .now) _ _ long (read .0) _ refl (c .before .before .before .before .before .before .before .before .before .before .before .size .given .1) (read .1)
     (c .before .before .before .before .before .before .before .before .part .ensures) (c .before .before .before .before .before .ask-on-target .ensures)
 
 returns-2 : tie.Need-returns-2
 returns-2 c =
-    let s = c .before .before .before .before .before .before .before .before .before .before .before .before .before in
-    let at = s .args in
-    stops (unread (at .text .now) (at .request) (at .start) (at .end) (at .file) (at .bytes .now) _ _ (length-replicate {A = ℕ} 65536 0) (c .before .before .before .before .before .before .read .ensures .0) (c .before .before .unread .given .1))
+    let s = c .before .before .before .before .before .before .before .before .before in
+    let at = s .before .before .before .before .before .args in
+    stops (unread (at .text .now) (at .request) (at .start) (at .end) (at .file) (at .bytes .now) _ _ (s .target-room .ensures) (c .before .before .before .before .before .before .read .ensures .0) (c .before .before .unread .given .1))
 
 pub ask-on-range-spec : {M : Type 1} → statement M
 ask-on-range-spec =
     tie.close
     (tie.spec
+    target-room-requires
     slice-aggregate-target
     read-requires
     enum-known-size
