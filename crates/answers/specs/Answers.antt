@@ -4,7 +4,8 @@ use mathlib.Core.List.{List, _++_}
 use Rattle.definition.specs.declared.Answered.{Answered}
 use Rattle.definition.specs.declared.Outcome.{Outcome}
 use Rattle.definition.specs.declared.Outcome.the-variants.{Answer, Refuse}
-use Rattle.terminal.specs.Page.{decimalText, column}
+use Rattle.spaces.specs.Spaces.{column}
+use Rattle.digits.specs.Digits.{decimalText}
 use Rattle.values.specs.Values.{className, rangeText, alleleText}
 use Rattle.refusals.specs.Refusals.{refusalText}
 

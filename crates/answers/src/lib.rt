@@ -1,5 +1,6 @@
 // What came back of a request, in words: an answer or a refusal on one line, in columns or with single spaces.
-ghost use Rattle.terminal.specs.Page.{Put, column};
+ghost use Rattle.terminal.specs.Page.{Put};
+ghost use Rattle.spaces.specs.Spaces.{column};
 ghost use Rattle.values.specs.Values.{className, rangeText, alleleText};
 ghost use Rattle.answers.specs.Answers.{answerText, outcomeText};
 use definition::Answered;
@@ -10,14 +11,14 @@ fn put_class_column(page: &mut [u8], used: usize, width: usize, class: Class) ->
     ensures { λ r. ⌜ Put (now (page .entry)) used (column width (className class)) (now (page .exit)) r ⌝ }
 {
     let named = values::put_class(page, used, class);
-    terminal::put_gap(page, named, used, width)
+    spaces::put_gap(page, named, used, width)
 }
 
 fn put_range_column(page: &mut [u8], used: usize, width: usize, start: usize, end: usize) -> usize
     ensures { λ r. ⌜ Put (now (page .entry)) used (column width (rangeText start end)) (now (page .exit)) r ⌝ }
 {
     let ranged = values::put_range(page, used, start, end);
-    terminal::put_gap(page, ranged, used, width)
+    spaces::put_gap(page, ranged, used, width)
 }
 
 fn put_allele_column(
@@ -30,7 +31,7 @@ fn put_allele_column(
     ensures { λ r. ⌜ Put (now (page .entry)) used (column width (alleleText (now (buffer .entry)) size)) (now (page .exit)) r ⌝ }
 {
     let spelled = values::put_allele(page, used, buffer, size);
-    terminal::put_gap(page, spelled, used, width)
+    spaces::put_gap(page, spelled, used, width)
 }
 
 // Class, range, both alleles and probes, each but the last in a column.
@@ -51,7 +52,7 @@ fn put_answer(
     let ranged = put_range_column(page, named, width, answer.start.0, answer.end.0);
     let before = put_allele_column(page, ranged, width, reference, answer.reference_size);
     let after = put_allele_column(page, before, width, alternative, answer.alternative_size);
-    terminal::put_number(page, after, answer.probes)
+    digits::put_number(page, after, answer.probes)
 }
 
 // An outcome on one line.

@@ -75,7 +75,7 @@ fn read_file(path: &[u8], bytes: &mut [u8]) -> File {
 fn put_class_line(page: &mut [u8], used: usize, answer: Answered) -> usize {
     let class = answer.class;
     let titled = terminal::put(page, used, b"class        ");
-    let numbered = terminal::put_number(page, titled, numbers::class_number(class) as usize);
+    let numbered = digits::put_number(page, titled, numbers::class_number(class) as usize);
     let spaced = terminal::put_byte(page, numbered, b' ');
     let named = values::put_class(page, spaced, class);
     let ended = terminal::put(page, named, b"\nrange        ");
@@ -112,7 +112,7 @@ fn put_answer(
         answer.alternative_size,
     );
     let titled = terminal::put(page, after, b"\nprobes       ");
-    terminal::put_number(page, titled, answer.probes)
+    digits::put_number(page, titled, answer.probes)
 }
 
 fn put_outcome(

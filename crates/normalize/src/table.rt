@@ -45,7 +45,7 @@ fn put_row(page: &mut [u8], used: usize, row: &[u8]) -> usize
     ensures { λ r. ⌜ Added (now (page .entry)) used (now (page .exit)) r ⌝ }
 {
     let asked = terminal::put(page, used, row);
-    let spaced = terminal::put_gap(page, asked, used, ASKED);
+    let spaced = spaces::put_gap(page, asked, used, ASKED);
     let answered = put_answer(page, spaced, row);
     terminal::put_byte(page, answered, b'\n')
 }
@@ -72,7 +72,7 @@ fn put_heading(page: &mut [u8], used: usize) -> usize
         b"The bench of 01: each row is asked after --target CAAATGGTACCA; --help tells how to ask for a change of your own.\n\n",
     );
     let asked = terminal::put(page, told, b"asked");
-    let spaced = terminal::put_gap(page, asked, told, ASKED);
+    let spaced = spaces::put_gap(page, asked, told, ASKED);
     terminal::put(
         page,
         spaced,

@@ -21,7 +21,7 @@ use Rattle.definition.specs.declared.Refusal.the-variants.{
 }
 use Rattle.definition.specs.Reply.{refusalNumber}
 use Rattle.text.specs.Text.{ascii}
-use Rattle.terminal.specs.Page.{decimalText}
+use Rattle.digits.specs.Digits.{decimalText}
 
 unfoldable pub refusalName : Refusal → List ℕ
 refusalName BadCode = ascii "BadCode"

@@ -39,7 +39,7 @@ pub fn put_refusal(page: &mut [u8], used: usize, refusal: Refusal) -> usize
     ensures { λ r. ⌜ Put (now (page .entry)) used (refusalText refusal) (now (page .exit)) r ⌝ }
 {
     let titled = terminal::put(page, used, b"refusal ");
-    let numbered = terminal::put_number(page, titled, numbers::refusal_number(refusal) as usize);
+    let numbered = digits::put_number(page, titled, numbers::refusal_number(refusal) as usize);
     let spaced = terminal::put_byte(page, numbered, b' ');
     put_name(page, spaced, refusal)
 }

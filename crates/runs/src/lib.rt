@@ -81,7 +81,7 @@ pub fn expand(field: &[u8], separator: u8, text: &mut [u8], size: usize) -> usiz
     let mut i = 0;
     while i < field.len() {
         let byte = separated(field[i], separator);
-        filled = terminal::put_run(text, filled, byte, run_count(field, i) as usize);
+        filled = spaces::put_run(text, filled, byte, run_count(field, i) as usize);
         i = run_end(field, i);
     }
     filled

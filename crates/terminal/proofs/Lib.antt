@@ -1,4 +1,3 @@
 -- What the proofs share. Assumes nothing.
 pub mod Pages
-pub mod Digits
 pub mod Unique

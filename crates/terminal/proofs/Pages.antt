@@ -1,18 +1,18 @@
--- The laws of a page: a text put after another is the two put as one; what fits stands behind what was there; a full page stays as it is; a
--- text and the gap behind it are a column. Assumes nothing.
-use Prim.Native.Nat.{ℕ, suc, _+_, _-_, _<_, _≤_}
+-- The laws of a page: a text put after another is the two put as one; what fits stands behind what was there; a full page stays as it is; what
+-- does not fit fills it. Assumes nothing.
+use Prim.Native.Nat.{ℕ, suc, _+_, _<_, _≤_}
 use mathlib.Core.Path.{_≡_, refl, sym, ap, _∙_}
 use mathlib.Core.List.{List, [], _∷_, _++_}
 use native.Mathlib.Numerals.{add-one}
 use native.Mathlib.Nat.{add-zero, lt-of-not-le}
 use native.Mathlib.Decide.{decLe}
 use native.Mathlib.Omega.{arith}
-use lib.ListN.{length, length-set, set, take, getD, drop, drop-of-length-le, replicate, replicate-append-replicate}
+use lib.ListN.{length, length-set, set, take, getD, drop, drop-of-length-le}
 use borrow.Author.Tests.{lt-ltb, le-ltb}
 use lib.Seq.{drop-cons, sets, sets-eq}
-use Rattle.terminal.specs.Page.{Page, page, withByte, withText, Put, Added, gap, column}
+use Rattle.terminal.specs.Page.{Page, page, withByte, withText, Put, Added}
 
-joined : (p : Page) (s t : List ℕ) → withText (withText p s) t ≡ withText p (s ++ t)
+pub joined : (p : Page) (s t : List ℕ) → withText (withText p s) t ≡ withText p (s ++ t)
 unfolding withText
 joined p [] t = refl
 joined p (byte ∷ s) t = joined (withByte p byte) s t
@@ -57,17 +57,13 @@ none = record { held = refl }
 pub same-text : {before s t after : List ℕ} {used count : ℕ} → s ≡ t → Put before used s after count → Put before used t after count
 same-text e put = rw (← e) put
 
-pub run-more : (i byte : ℕ) {before bytes after : List ℕ} {used count end : ℕ}
-    → Put before used (replicate i byte) bytes count → Put bytes count (byte ∷ []) after end → Put before used (replicate (i + 1) byte) after end
-run-more i byte first second = same-text (replicate-append-replicate i 1 byte) (then first second)
-
 -- a page that is full stays as it is
-full-stays : (p : Page) (text : List ℕ) → length (p .bytes) ≤ p .used → withText p text ≡ p
+pub full-stays : (p : Page) (text : List ℕ) → length (p .bytes) ≤ p .used → withText p text ≡ p
 unfolding withText
 full-stays p [] full = refl
 full-stays p (byte ∷ text) full = rw (le-ltb (p .used) (length (p .bytes)) full) (full-stays p text full)
 
-stored : (text bytes : List ℕ) (used : ℕ) → used + length text ≤ length bytes
+pub stored : (text bytes : List ℕ) (used : ℕ) → used + length text ≤ length bytes
     → withText (page bytes used) text ≡ page (sets bytes used text) (used + length text)
 unfolding withText
 stored [] bytes used fits = rw (add-zero used)
@@ -94,32 +90,8 @@ less-left p byte n (yes full) h = rw (le-ltb (p .used) (length (p .bytes)) full)
 less-left p byte n (no room) h =
     rw (lt-ltb (p .used) (length (p .bytes)) (lt-of-not-le room), length-set (p .bytes) (p .used) byte) (omega arith)
 
-filled : (text : List ℕ) (p : Page) → length (p .bytes) ≤ p .used + length text → length (withText p text .bytes) ≤ withText p text .used
+pub filled : (text : List ℕ) (p : Page) → length (p .bytes) ≤ p .used + length text → length (withText p text .bytes) ≤ withText p text .used
 unfolding withText
 filled [] p h = omega arith
 filled (byte ∷ text) p h =
     filled text (withByte p byte) (less-left p byte (length text) (decLe (length (p .bytes)) (p .used)) h)
-
--- a text and the gap behind it, which is counted from where the text begins, are the text in a column
-module _ (width used count : ℕ) {before middle after text : List ℕ} {end : ℕ}
-    (put : Put before used text middle count) (spaced : Put middle count (gap width (count - used)) after end) where
-  in-column-of : Dec (used + length text ≤ length before) → Put before used (column width text) after end
-  in-column-of (yes fits) =
-      let counted : count - used ≡ length text =
-      let e : count ≡ used + length text = ap (λ (p : Page). p .used) (put .held ∙ stored text before used fits) in omega arith
-      in
-      then put (rw counted at spaced)
-  in-column-of (no cut) =
-      let full : length middle ≤ count =
-      let all = filled text (page before used) (omega (arith, lt-of-not-le cut)) in rw (← put .held) at all
-      in
-      let held : page after end ≡ page middle count = spaced .held ∙ full-stays (page middle count) _ full in
-      record {
-        held = held
-            ∙ sym (full-stays (page middle count) (gap width (length text)) full)
-            ∙ ap (λ (p : Page). withText p (gap width (length text))) (put .held)
-            ∙ joined _ text (gap width (length text));
-      }
-
-  pub in-column : Put before used (column width text) after end
-  in-column = in-column-of (decLe (used + length text) (length before))

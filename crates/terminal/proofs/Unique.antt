@@ -8,9 +8,6 @@ use Rattle.definition.proofs.Fixes.{Fixes}
 use Rattle.terminal.specs.Page.{Put, page}
 use Rattle.terminal.proofs.put_byte.Reads as put-byte
 use Rattle.terminal.proofs.put.Reads as put
-use Rattle.terminal.proofs.put_number.Reads as put-number
-use Rattle.terminal.proofs.put_run.Reads as put-run
-use Rattle.terminal.proofs.put_gap.Reads as put-gap
 
 pub one-page : {before text after other : List ℕ} {used count end : ℕ}
     → Put before used text after count → Put before used text other end → page after count ≡ page other end
@@ -21,12 +18,3 @@ put-byte-one-page κs a x y atX atY p q = one-page p q
 
 pub put-one-page : Fixes (λ κs x at. page (now (at .0)) x) put.Post
 put-one-page κs a x y atX atY p q = one-page p q
-
-pub put-number-one-page : Fixes (λ κs x at. page (now (at .0)) x) put-number.Post
-put-number-one-page κs a x y atX atY p q = one-page p q
-
-pub put-run-one-page : Fixes (λ κs x at. page (now (at .0)) x) put-run.Post
-put-run-one-page κs a x y atX atY p q = one-page p q
-
-pub put-gap-one-page : Fixes (λ κs x at. page (now (at .0)) x) put-gap.Post
-put-gap-one-page κs a x y atX atY p q = one-page p q

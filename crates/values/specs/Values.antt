@@ -6,7 +6,7 @@ use lib.Dec.{eqb}
 use Rattle.definition.specs.declared.Class.{Class}
 use Rattle.definition.specs.declared.Class.the-variants.{Insertion, Duplication, Deletion, Replacement, Inversion, Unchanged}
 use Rattle.text.specs.Text.{ascii}
-use Rattle.terminal.specs.Page.{decimalText}
+use Rattle.digits.specs.Digits.{decimalText}
 use Rattle.text.specs.Text.{partOf}
 
 unfoldable pub className : Class → List ℕ

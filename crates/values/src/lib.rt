@@ -28,9 +28,9 @@ unchanged",
 pub fn put_range(page: &mut [u8], used: usize, start: usize, end: usize) -> usize
     ensures { λ r. ⌜ Put (now (page .entry)) used (rangeText start end) (now (page .exit)) r ⌝ }
 {
-    let started = terminal::put_number(page, used, start);
+    let started = digits::put_number(page, used, start);
     let parted = terminal::put_byte(page, started, b',');
-    terminal::put_number(page, parted, end)
+    digits::put_number(page, parted, end)
 }
 
 // An allele, which is the front of its buffer: a dash where it is empty.

@@ -1,6 +1,6 @@
 -- `refusals::put_refusal` meets its contract: the four puts are one. Assumes nothing.
 use mathlib.Core.Path.{ap}
-use Rattle.terminal.specs.Page.{decimalText}
+use Rattle.digits.specs.Digits.{decimalText}
 use Rattle.terminal.proofs.Pages.{then, same-text}
 use borrow.Author.Needs.{needs}
 use Rattle.refusals.proofs.put_refusal.Statement.{statement}

@@ -5,7 +5,7 @@ use mathlib.Core.List.{[], _∷_, _++_}
 use native.Mathlib.Nat.{pow-suc, div-lt-iff-lt-mul}
 use native.Mathlib.Omega.{arith}
 use borrow.Author.Tests.{lt-ltb, le-ltb}
-use Rattle.terminal.specs.Page.{digitsIn, decimalText}
+use Rattle.digits.specs.Digits.{digitsIn, decimalText}
 
 tenth-below : (k n : ℕ) → n < 10 ^ suc k → n / 10 < 10 ^ k
 tenth-below k n below = div-lt-iff-lt-mul {k = 10} {x = n} {y = 10 ^ k} (omega arith) .1 (rw (pow-suc 10 k) at below)

@@ -1,18 +1,18 @@
--- `terminal::put_number` meets its contract: its tenth's digits, which it puts by a call of itself, then the last one. The measure is the number.
+-- `digits::put_number` meets its contract: its tenth's digits, which it puts by a call of itself, then the last one. The measure is the number.
 -- Assumes nothing.
 use Prim.Native.Nat.{ℕ, _<_}
 use native.Mathlib.Omega.{arith}
 use borrow.Author.Needs.{needs}
 use borrow.Fn.Kinds.{In}
 use borrow.Fn.PlainCycle.{Measures, is, falls, and}
 use Rattle.terminal.proofs.Pages.{then, same-text}
-use Rattle.terminal.proofs.Digits.{one-digit, last-digit}
-use Rattle.terminal.proofs.put_number.Reads as put-number
-use Rattle.terminal.proofs.put_number.Kinds as kinds
-use Rattle.terminal.proofs.+put_number.Lts-put_number as lts
+use Rattle.digits.proofs.Digits.{one-digit, last-digit}
+use Rattle.digits.proofs.put_number.Reads as put-number
+use Rattle.digits.proofs.put_number.Kinds as kinds
+use Rattle.digits.proofs.+put_number.Lts-put_number as lts
 use Rattle.terminal.proofs.put_byte.Reads as put-byte
-use Rattle.terminal.proofs.+put_number.{statement}
-use Rattle.terminal.proofs.+put_number.Tie.{close}
+use Rattle.digits.proofs.+put_number.{statement}
+use Rattle.digits.proofs.+put_number.Tie.{close}
 
 abbrev μ : Measures 1 kinds.ps ℕ
 μ κs a = a .1 .1 .0

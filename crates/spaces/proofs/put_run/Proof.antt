@@ -1,14 +1,15 @@
--- `terminal::put_run` meets its contract. The invariant: as many of the byte as there were turns are on the page. The measure is the turns left.
+-- `spaces::put_run` meets its contract. The invariant: as many of the byte as there were turns are on the page. The measure is the turns left.
 -- Assumes nothing.
 use mathlib.Core.Path.{_≡_}
 use Prim.Native.Nat.{_≤_, _-_}
 use native.Mathlib.Omega.{arith}
 use borrow.Author.Needs.{needs}
 use lib.ListN.{length, replicate}
 use Rattle.terminal.specs.Page.{Put}
-use Rattle.terminal.proofs.Pages.{none, run-more}
-use Rattle.terminal.proofs.put_run.Statement.{statement}
-use Rattle.terminal.proofs.put_run.Tie as tie
+use Rattle.terminal.proofs.Pages.{none}
+use Rattle.spaces.proofs.Spaces.{run-more}
+use Rattle.spaces.proofs.put_run.Statement.{statement}
+use Rattle.spaces.proofs.put_run.Tie as tie
 
 abbrev Inv-loop : tie.InvT-loop
 Inv-loop page₀ used byte size count₀ i₀ page count i = (i ≤ size) × (length page ≡ length page₀) × Put page₀ used (replicate i byte) page count

@@ -1,12 +1,12 @@
--- `terminal::put_gap` meets its contract: no space left to fill is one space. Assumes nothing.
+-- `spaces::put_gap` meets its contract: no space left to fill is one space. Assumes nothing.
 use mathlib.Core.Path.{_≡_, ap}
 use Prim.Native.Nat.{_-_, max}
 use native.Mathlib.Omega.{arith}
-use Rattle.terminal.specs.Page.{spaces}
+use Rattle.spaces.specs.Spaces.{spaces}
 use Rattle.terminal.proofs.Pages.{same-text}
 use borrow.Author.Needs.{needs}
-use Rattle.terminal.proofs.put_gap.Statement.{statement}
-use Rattle.terminal.proofs.put_gap.Tie as tie
+use Rattle.spaces.proofs.put_gap.Statement.{statement}
+use Rattle.spaces.proofs.put_gap.Tie as tie
 
 less-requires : tie.Need-less-requires
 less-requires c κs = search needs
