@@ -9,7 +9,8 @@ use mathlib.Core.Option.{Option, none, some}
 use borrow.Author.Tests.{le-ltb, eq-eqb, ne-eqb, leb-false}
 use lib.Dec.{eqb, leb}
 use lib.ListN.{length, take, length-append}
-use Rattle.text.specs.Text.{partOf, foundAt, wordAt, partsAt}
+use Rattle.text.specs.Text.{partOf, foundAt, partsAt}
+use Rattle.lines.specs.Lines.{wordAt}
 use Rattle.decimals.specs.Decimal.{decimalOf}
 use Rattle.decimals.specs.declared.Number.{Number}
 use Rattle.decimals.specs.declared.Number.the-variants.{Is, Bad}

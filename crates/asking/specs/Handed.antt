@@ -6,7 +6,7 @@ use lib.Dec.{ltb}
 use lib.IntN.{ℤ, pos, negsuc}
 use Rattle.definition.specs.Request as definition
 use Rattle.normalizer.specs.Asked.{asked}
-use Rattle.text.specs.Text.{wordAt}
+use Rattle.lines.specs.Lines.{wordAt}
 use Rattle.requests.specs.declared.Bound.{Bound}
 use Rattle.requests.specs.declared.Bound.the-variants.{Unbound, At}
 use Rattle.requests.specs.declared.Request.{Request}

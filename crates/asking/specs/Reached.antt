@@ -7,7 +7,7 @@ use lib.Dec.{eqb}
 use Rattle.definition.specs.Request as definition
 use Rattle.definition.specs.Verdict.{verdict}
 use Rattle.definition.specs.Reply.{outcomeOf, referenceOut, alternativeOut, written}
-use Rattle.text.specs.Text.{wordAt}
+use Rattle.lines.specs.Lines.{wordAt}
 use Rattle.exon_lists.specs.declared.Exons as exon-lists
 use Rattle.exon_lists.specs.declared.Exons.the-variants.{Table, BadPair, TooMany}
 use Rattle.requests.specs.declared.Asked.{Asked}

@@ -58,7 +58,7 @@ pub(crate) fn hand(
         position_of(start),
         position_of(end),
         codes.edit,
-        text::word(text, words.alternative),
+        lines::word(text, words.alternative),
         codes.direction,
         codes.window,
         reference_out,

@@ -29,7 +29,7 @@ fn exons_at(text: &[u8], word: usize, table: &mut [u8]) -> Exons
     if word == requests::NO_WORD {
         return Exons::Table(0);
     }
-    exon_lists::read_exons(text::word(text, word), table)
+    exon_lists::read_exons(lines::word(text, word), table)
 }
 
 // A request from a start to an end, whose target is read.

@@ -135,7 +135,7 @@ fn put_outcome(
 // What is said where words reach no outcome: the usage where they ask for it.
 fn put_problem(page: &mut [u8], used: usize, text: &[u8], problem: Problem) -> usize {
     if let Problem::Wrong(_, at) = problem {
-        if check::same(text::word(text, at), b"--help") {
+        if check::same(lines::word(text, at), b"--help") {
             return usage::put_usage(page, used);
         }
     }

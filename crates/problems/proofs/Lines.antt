@@ -3,7 +3,7 @@
 use Prim.Native.Nat.{ℕ}
 use mathlib.Core.Path.{_≡_}
 use mathlib.Core.List.{List, [], _++_}
-use Rattle.text.specs.Text.{wordAt, lineOf, Line}
+use Rattle.lines.specs.Lines.{wordAt, lineOf, Line}
 use Rattle.requests.specs.declared.Fault.the-variants.{UnknownOption, NoValue, BadKind, BadEdit, BadDirection, BadWindow, BadRange, BadBound}
 use Rattle.problems.specs.declared.Problem.{Problem}
 use Rattle.problems.specs.declared.Problem.the-variants.{Wrong, Unread as UnreadTarget, NoEdit, NoRange, BadExons, TooManyExons}

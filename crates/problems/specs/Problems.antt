@@ -4,7 +4,7 @@ use mathlib.Core.List.{List, _++_}
 use Rattle.requests.specs.declared.Fault.{Fault}
 use Rattle.requests.specs.declared.Fault.the-variants.{UnknownOption, NoValue, BadKind, BadEdit, BadDirection, BadWindow, BadRange, BadBound}
 use Rattle.text.specs.Text.{ascii}
-use Rattle.text.specs.Text.{wordAt}
+use Rattle.lines.specs.Lines.{wordAt}
 use Rattle.problems.specs.declared.Problem.{Problem}
 use Rattle.problems.specs.declared.Problem.the-variants.{Wrong, Unread as UnreadTarget, NoEdit, NoRange, BadExons, TooManyExons}
 use Rattle.problems.specs.declared.Unread.{Unread}

@@ -98,13 +98,13 @@ pub fn put_problem(page: &mut [u8], used: usize, text: &[u8], problem: Problem) 
     ensures { λ r. ⌜ Put (now (page .entry)) used (problemText (now (text .entry)) problem) (now (page .exit)) r ⌝ }
 {
     let number = line_number(problem);
-    let option = text::word(text, place_of(problem));
-    let quoted = terminal::put(page, used, text::line(b"\n'", number));
+    let option = lines::word(text, place_of(problem));
+    let quoted = terminal::put(page, used, lines::line(b"\n'", number));
     let named = put_mentioned(page, quoted, number, option);
     terminal::put(
         page,
         named,
-        text::line(
+        lines::line(
             b"
 ' is no option. Give one that --help lists, each value after its option.
  has no value. Give one after it; --help shows which.

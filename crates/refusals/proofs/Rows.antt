@@ -21,7 +21,7 @@ use Rattle.definition.specs.declared.Refusal.the-variants.{
   VariantSpanOutsideSequenceBounds,
 }
 use Rattle.definition.specs.Reply.{refusalNumber}
-use Rattle.text.specs.Text.{lineOf, Line}
+use Rattle.lines.specs.Lines.{lineOf, Line}
 
 module _ (of : Refusal → List ℕ) {line texts : List ℕ} {number : ℕ} (refusal : Refusal)
     (is-line : Line texts number line) (is-number : number ≡ refusalNumber refusal)

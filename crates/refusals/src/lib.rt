@@ -11,7 +11,7 @@ fn put_name(page: &mut [u8], used: usize, refusal: Refusal) -> usize
     terminal::put(
         page,
         used,
-        text::line(
+        lines::line(
             b"
 BadCode
 BadWindow
@@ -52,7 +52,7 @@ pub fn put_advice(page: &mut [u8], used: usize, refusal: Refusal) -> usize
     terminal::put(
         page,
         used,
-        text::line(
+        lines::line(
             b"
 Give a listed kind, edit and direction.
 Give a window from 1 to 1024.

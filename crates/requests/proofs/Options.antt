@@ -4,7 +4,8 @@ use mathlib.Core.Path.{_≡_, sym, ap, _∙_}
 use mathlib.Core.List.{List}
 use borrow.Author.Tests.{eq-eqb, ne-eqb}
 use lib.ListN.{length}
-use Rattle.text.specs.Text.{wordAt, afterFound}
+use Rattle.text.specs.Text.{afterFound}
+use Rattle.lines.specs.Lines.{wordAt}
 use Rattle.requests.specs.Names.{nameOf}
 use Rattle.requests.specs.declared.names.Name.{Name}
 use Rattle.requests.specs.declared.Request.{Request}

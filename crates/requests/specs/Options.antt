@@ -5,7 +5,8 @@ use mathlib.Core.List.{List}
 use lib.Dec.{eqb, ltb}
 use lib.ListN.{length}
 use Rattle.decimals.specs.Decimal.{decimalOf}
-use Rattle.text.specs.Text.{wordAt, afterFound}
+use Rattle.text.specs.Text.{afterFound}
+use Rattle.lines.specs.Lines.{wordAt}
 use Rattle.requests.specs.Names.{nameOf, kindCode, editCode, directionCode}
 use Rattle.requests.specs.declared.names.Name.{Name}
 use Rattle.requests.specs.declared.names.Name.the-variants.{Target, File, Exons, Alternative, Kind, Edit, Direction, Window, CdsStart, CdsEnd, Cds, Range, Unknown}

@@ -261,7 +261,7 @@ fn values_of(name: Name) -> usize
 fn with_next(asked: Request, text: &[u8], at: usize) -> Step
     ensures { λ r. ⌜ r ≡ withNext asked (now (text .entry)) at ⌝ }
 {
-    let name = names::name_of(text::word(text, at));
+    let name = names::name_of(lines::word(text, at));
     if values_of(name) == 0 {
         return Step::Wrong(Fault::UnknownOption);
     }
@@ -269,8 +269,8 @@ fn with_next(asked: Request, text: &[u8], at: usize) -> Step
     if value == text.len() {
         return Step::Wrong(Fault::NoValue);
     }
-    let other = text::word(text, text::after(text, value, 0));
-    with_option(asked, name, text::word(text, value), other, value)
+    let other = lines::word(text, text::after(text, value, 0));
+    with_option(asked, name, lines::word(text, value), other, value)
 }
 
 // Where the option after it begins.
@@ -278,7 +278,7 @@ fn after_option(text: &[u8], at: usize) -> usize
     ensures { λ r. ⌜ r ≡ afterOption (now (text .entry)) at ⌝ }
     ensures { λ r. ⌜ (r ≤ length (now (text .entry))) × (min (at + 1) (length (now (text .entry))) ≤ r) ⌝ }
 {
-    let name = names::name_of(text::word(text, at));
+    let name = names::name_of(lines::word(text, at));
     let behind = text::after(text, text::after(text, at, 0), 0);
     if values_of(name) == 2 {
         return text::after(text, behind, 0);

@@ -3,7 +3,7 @@ use Prim.Native.Nat.{ℕ}
 use mathlib.Core.Path.{_≡_}
 use mathlib.Core.List.{List}
 use borrow.Author.Tests.{eq-eqb, ne-eqb}
-use Rattle.text.specs.Text.{wordAt}
+use Rattle.lines.specs.Lines.{wordAt}
 use Rattle.requests.specs.Request.{noWord}
 use Rattle.problems.specs.declared.Unread.the-variants.{Missing, Twice}
 use Rattle.targets.specs.declared.File.{File}

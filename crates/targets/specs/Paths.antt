@@ -1,7 +1,7 @@
 -- The path of the file that the words of a command line name. Assumes nothing.
 use Prim.Native.Nat.{ℕ}
 use mathlib.Core.List.{List, []}
-use Rattle.text.specs.Text.{wordAt}
+use Rattle.lines.specs.Lines.{wordAt}
 use Rattle.requests.specs.declared.Asked.{Asked}
 use Rattle.requests.specs.declared.Asked.the-variants.{Whole, Broken}
 use Rattle.requests.specs.Options.{requestOf}

@@ -3,7 +3,8 @@ use Prim.Native.Nat.{ℕ}
 use mathlib.Core.Bool.{cond}
 use mathlib.Core.List.{List, []}
 use lib.Dec.{eqb}
-use Rattle.text.specs.Text.{partOf, wordAt}
+use Rattle.text.specs.Text.{partOf}
+use Rattle.lines.specs.Lines.{wordAt}
 use Rattle.letters.specs.Letters.{recordOf, lettersOf, lettersRead, lettersLaid}
 use Rattle.letters.specs.declared.Letters as letters
 use Rattle.letters.specs.declared.Letters.the-variants as read

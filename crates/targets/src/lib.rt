@@ -26,7 +26,7 @@ pub fn path_of(text: &[u8]) -> &[u8]
     ensures { λ r. ⌜ now r ≡ pathOf (now (text .entry)) ⌝ }
 {
     match requests::request_of(text) {
-        Asked::Whole(request) => text::word(text, request.words.file),
+        Asked::Whole(request) => lines::word(text, request.words.file),
         Asked::Broken(_, _) => text::part(text, 0, 0),
     }
 }
@@ -72,7 +72,7 @@ pub fn read(
         return read_file(file, bytes, target);
     }
     if path == requests::NO_WORD {
-        return read_text(text::word(text, letters), target);
+        return read_text(lines::word(text, letters), target);
     }
     Target::Unread(Unread::Twice)
 }

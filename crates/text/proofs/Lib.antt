@@ -1,6 +1,5 @@
 -- What the proofs share. Assumes nothing.
 pub mod Tests
 pub mod Found
-pub mod Lines
 pub mod Splits
 pub mod Unique

@@ -6,8 +6,6 @@ use Rattle.definition.proofs.Fixes.{Fixes}
 use Rattle.text.proofs.part.Reads as part
 use Rattle.text.proofs.find.Reads as find
 use Rattle.text.proofs.after.Reads as after
-use Rattle.text.proofs.word.Reads as word
-use Rattle.text.proofs.line.Reads as line
 
 -- every byte of a part
 pub part-one : Fixes (λ κs x at. now x) part.Post
@@ -18,9 +16,3 @@ find-one κs a x y atX atY p q = p .0 ∙ sym (q .0)
 
 pub after-one : Fixes (λ κs x at. x) after.Post
 after-one κs a x y atX atY p q = p .0 ∙ sym (q .0)
-
-pub word-one : Fixes (λ κs x at. now x) word.Post
-word-one κs a x y atX atY p q = p ∙ sym q
-
-pub line-one : Fixes (λ κs x at. now x) line.Post
-line-one κs a x y atX atY p q = p .is ∙ sym (q .is)

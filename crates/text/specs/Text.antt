@@ -1,8 +1,7 @@
--- Parts, words and lines of a text. Assumes nothing.
-use Prim.Native.Nat.{ℕ, zero, suc, _+_, _-_, min}
+-- Parts of a text, and where a byte that parts it stands. Assumes nothing.
+use Prim.Native.Nat.{ℕ, _+_, _-_, min}
 use Prim.Native.Char.{code}
 use Prim.Native.String.{String, [] as end, _∷_ as _then_}
-use mathlib.Core.Path.{_≡_}
 use mathlib.Core.Bool.{cond}
 use mathlib.Core.List.{List, [], _∷_}
 use lib.Dec.{ltb, eqb}
@@ -34,17 +33,3 @@ onFirst x (part ∷ parts) = (x ∷ part) ∷ parts
 unfoldable pub partsAt : ℕ → List ℕ → List (List ℕ)
 partsAt byte [] = [] ∷ []
 partsAt byte (x ∷ xs) = cond (eqb x byte) ([] ∷ partsAt byte xs) (onFirst x (partsAt byte xs))
-
--- the word that begins at an index, up to the byte 0 that ends it
-abbrev pub wordAt : List ℕ → ℕ → List ℕ
-wordAt text from = partOf text from (foundAt text from 0)
-
--- the line of a number, which counts from 0, without its line end, 10: empty where the text has no such line
-unfoldable pub lineOf : ℕ → List ℕ → List ℕ
-lineOf number [] = []
-lineOf zero (byte ∷ text) = cond (eqb byte 10) [] (byte ∷ lineOf zero text)
-lineOf (suc number) (byte ∷ text) = lineOf (cond (eqb byte 10) number (suc number)) text
-
--- what `line` ensures of the line that it gives back: a record, so that the text can be read off it where the lines of a literal are compared
-pub record Line (text : List ℕ) (number : ℕ) (line : List ℕ) : Type 0 where
-  pub is : line ≡ lineOf number text

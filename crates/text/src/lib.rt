@@ -1,8 +1,8 @@
-// Parts of a text, by the bytes that part it: a byte 0 ends each word, and a line end each line.
+// Parts of a text, and where a byte that parts it stands.
 ghost use mathlib.Core.Path.{_≡_};
 ghost use Prim.Native.Nat.{_+_, _≤_, min};
 ghost use lib.ListN.{length};
-ghost use Rattle.text.specs.Text.{partOf, foundAt, afterFound, wordAt, Line};
+ghost use Rattle.text.specs.Text.{partOf, foundAt, afterFound};
 
 // The bytes from one index up to another; none where they don't lie in the text in this order.
 pub fn part(text: &[u8], from: usize, to: usize) -> &[u8]
@@ -28,13 +28,6 @@ pub fn find(text: &[u8], from: usize, byte: u8) -> usize
     bytes::scan::find(text, from, text.len(), byte)
 }
 
-// The word that begins at an index. A byte 0 ends each word.
-pub fn word(text: &[u8], from: usize) -> &[u8]
-    ensures { λ r. ⌜ now r ≡ wordAt (now (text .entry)) from ⌝ }
-{
-    part(text, from, find(text, from, 0))
-}
-
 // The index behind the first of a byte at or after an index: the text's end where there is none.
 pub fn after(text: &[u8], from: usize, byte: u8) -> usize
     ensures { λ r. ⌜ r ≡ afterFound (now (text .entry)) from byte ⌝ }
@@ -45,17 +38,4 @@ pub fn after(text: &[u8], from: usize, byte: u8) -> usize
         return at + 1;
     }
     text.len()
-}
-
-// The line of a number, which counts from 0: empty where the text has no such line.
-pub fn line(text: &[u8], number: usize) -> &[u8]
-    ensures { λ r. ⌜ Line (now (text .entry)) number (now r) ⌝ }
-{
-    let mut from = 0;
-    let mut i = 0;
-    while i < number {
-        from = after(text, from, b'\n');
-        i += 1;
-    }
-    part(text, from, find(text, from, b'\n'))
 }

@@ -5,7 +5,7 @@ use mathlib.Core.List.{List}
 use Rattle.definition.specs.declared.Class.{Class}
 use Rattle.definition.specs.declared.Class.the-variants.{Insertion, Duplication, Deletion, Replacement, Inversion, Unchanged}
 use Rattle.definition.specs.Answer.{classNumber}
-use Rattle.text.specs.Text.{lineOf, Line}
+use Rattle.lines.specs.Lines.{lineOf, Line}
 use Rattle.values.specs.Values.{className}
 
 module _ {line texts : List ℕ} {number : ℕ} (class : Class)

@@ -11,7 +11,7 @@ pub fn put_class(page: &mut [u8], used: usize, class: Class) -> usize
     terminal::put(
         page,
         used,
-        text::line(
+        lines::line(
             b"
 insertion
 duplication

@@ -1,7 +1,7 @@
 -- `problems::put_problem` meets its contract: the three puts are one sentence, which the line of the problem is. Assumes nothing.
 use mathlib.Core.Path.{refl, ap, _∙_}
 use Rattle.terminal.proofs.Pages.{then, same-text}
-use Rattle.text.specs.Text.{wordAt, lineOf}
+use Rattle.lines.specs.Lines.{wordAt, lineOf}
 use Rattle.problems.specs.Problems.{faultText, unreadText, problemText}
 use Rattle.problems.proofs.Lines.{sentence}
 use borrow.Author.Needs.{needs}

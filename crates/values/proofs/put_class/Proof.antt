@@ -1,7 +1,7 @@
 -- `values::put_class` meets its contract: line N is the name of class N. Assumes nothing.
 use mathlib.Core.Path.{refl}
 use borrow.Author.Needs.{needs}
-use Rattle.text.specs.Text.{lineOf}
+use Rattle.lines.specs.Lines.{lineOf}
 use Rattle.terminal.proofs.Pages.{same-text}
 use Rattle.values.specs.Values.{className}
 use Rattle.values.proofs.Rows.{named}

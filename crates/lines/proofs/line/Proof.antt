@@ -1,14 +1,14 @@
--- `text::line` meets its contract. The invariant: the line is one of the text from an index on, by what is left of its number. The measure is what is
+-- `lines::line` meets its contract. The invariant: the line is one of the text from an index on, by what is left of its number. The measure is what is
 -- left. Assumes nothing.
 use mathlib.Core.Path.{_≡_, _∙_}
 use Prim.Native.Nat.{_≤_, _-_}
 use native.Mathlib.Omega.{arith}
 use borrow.Author.Needs.{needs}
 use lib.ListN.{length, drop}
-use Rattle.text.specs.Text.{lineOf}
-use Rattle.text.proofs.Lines.{start, next, done}
-use Rattle.text.proofs.line.Statement.{statement}
-use Rattle.text.proofs.line.Tie as tie
+use Rattle.lines.specs.Lines.{lineOf}
+use Rattle.lines.proofs.Lines.{start, next, done}
+use Rattle.lines.proofs.line.Statement.{statement}
+use Rattle.lines.proofs.line.Tie as tie
 
 abbrev Inv-loop : tie.InvT-loop
 Inv-loop text number from₀ i₀ from i =

@@ -1,10 +1,10 @@
--- `text::word` meets its contract: what `part` gives up to where `find` stops. Assumes nothing.
+-- `lines::word` meets its contract: what `part` gives up to where `find` stops. Assumes nothing.
 use mathlib.Core.Path.{_∙_, ap}
 use denote.Ref.{now}
 use Rattle.text.specs.Text.{partOf}
 use borrow.Author.Needs.{needs}
-use Rattle.text.proofs.word.Statement.{statement}
-use Rattle.text.proofs.word.Tie as tie
+use Rattle.lines.proofs.word.Statement.{statement}
+use Rattle.lines.proofs.word.Tie as tie
 
 find-requires : tie.Need-find-requires
 find-requires c κs = search needs

@@ -8,8 +8,9 @@ use lib.Dec.{eqb}
 use lib.ListN.{length, take, drop, length-drop}
 use lib.Seq.{drop-drop}
 use Rattle.bytes.specs.Bytes.{indexOf, indexAfter}
-use Rattle.text.specs.Text.{partOf, foundAt, afterFound, lineOf}
+use Rattle.text.specs.Text.{partOf, foundAt, afterFound}
 use Rattle.text.proofs.Found.{ends-at, part-is}
+use Rattle.lines.specs.Lines.{lineOf}
 
 first-line : (text : List ℕ) → lineOf zero text ≡ take (indexOf 10 text) text
 unfolding lineOf indexOf indexAfter

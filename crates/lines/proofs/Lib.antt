@@ -1,0 +1,3 @@
+-- What the proofs share. Assumes nothing.
+pub mod Lines
+pub mod Unique
