@@ -168,7 +168,7 @@ fn put_reply(page: &mut [u8], text: &[u8]) -> usize {
     }
     let mut space = file_room();
     let bytes: &mut [u8] = &mut space;
-    let file = read_file(targets::path_of(text), bytes);
+    let file = read_file(paths::path_of(text), bytes);
     let reached = put_reached(page, 0, text, file, bytes);
     terminal::put_byte(page, reached, b'\n')
 }

@@ -1,12 +1,8 @@
--- Each public contract decides its result, and every byte of the target: two results that it allows are equal. Assumes nothing.
+-- The public contract decides its result, and every byte of the target: two results that it allows are equal. Assumes nothing.
 use mathlib.Core.Path.{sym, _∙_}
 use denote.Ref.{now}
 use Rattle.definition.proofs.Fixes.{Fixes}
-use Rattle.targets.proofs.path_of.Reads as path-of
 use Rattle.targets.proofs.read.Reads as read
-
-pub path-of-one : Fixes (λ κs x at. now x) path-of.Post
-path-of-one κs a x y atX atY p q = p ∙ sym q
 
 pub read-one : Fixes (λ κs x at. x) read.Post
 read-one κs a x y atX atY p q = p .0 ∙ sym (q .0)

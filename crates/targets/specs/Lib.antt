@@ -1,3 +1,2 @@
 -- What the contracts of `src/` cite. Assumes nothing.
-pub mod Paths
 pub mod Sources

@@ -1,12 +1,9 @@
-// A target as the words of a command line give it: its letters, or a file that has them. The file is read by the caller, who asks for its path and
-// lends its bytes.
+// A target as the words of a command line give it: its letters, or a file that has them. The file is read by the caller, who lends its bytes.
 ghost use mathlib.Core.Path.{_≡_};
 ghost use lib.ListN.{length};
-ghost use Rattle.targets.specs.Paths.{pathOf};
 ghost use Rattle.targets.specs.Sources.{found, ofFile, sourceOf, targetOf, laid};
 use letters::Letters;
 use problems::Unread;
-use requests::Asked;
 
 // What reading the file that the words name came to: so many bytes at the front of those that are lent, or why not.
 pub enum File {
@@ -19,16 +16,6 @@ pub enum File {
 pub enum Target {
     Letters(usize),
     Unread(Unread),
-}
-
-// The path of the file that words name: empty where they name none.
-pub fn path_of(text: &[u8]) -> &[u8]
-    ensures { λ r. ⌜ now r ≡ pathOf (now (text .entry)) ⌝ }
-{
-    match requests::request_of(text) {
-        Asked::Whole(request) => lines::word(text, request.words.file),
-        Asked::Broken(_, _) => text::part(text, 0, 0),
-    }
 }
 
 fn read_text(text: &[u8], target: &mut [u8]) -> Target
