@@ -127,7 +127,7 @@ fn put_outcome(
         Outcome::Refuse(refusal) => {
             let refused = refusals::put_refusal(page, used, refusal);
             let parted = terminal::put(page, refused, b": ");
-            refusals::put_advice(page, parted, refusal)
+            advice::put_advice(page, parted, refusal)
         }
     }
 }

@@ -1,12 +1,12 @@
--- `refusals::put_advice` meets its contract: line N is what is put for refusal N. Assumes nothing.
+-- `advice::put_advice` meets its contract: line N is what is put for refusal N. Assumes nothing.
 use mathlib.Core.Path.{refl}
 use borrow.Author.Needs.{needs}
 use Rattle.lines.specs.Lines.{lineOf}
 use Rattle.terminal.proofs.Pages.{same-text}
-use Rattle.refusals.specs.Refusals.{adviceText}
+use Rattle.advice.specs.Advice.{adviceText}
 use Rattle.refusals.proofs.Rows.{named}
-use Rattle.refusals.proofs.put_advice.Statement.{statement}
-use Rattle.refusals.proofs.put_advice.Tie as tie
+use Rattle.advice.proofs.put_advice.Statement.{statement}
+use Rattle.advice.proofs.put_advice.Tie as tie
 
 refusal-number-requires : tie.Need-refusal-number-requires
 refusal-number-requires c κs = search needs

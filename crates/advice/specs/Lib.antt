@@ -1,0 +1,2 @@
+-- What the contract of `src/` cites. Assumes nothing.
+pub mod Advice
