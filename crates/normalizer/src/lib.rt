@@ -1,5 +1,7 @@
 // `normalize`: rows 1 to 5 in order, then the verdict on what was read. Nothing is left to the caller to check. `normalize_checked` is for a
 // caller that has checked the target once and asks often.
+mod codes;
+
 ghost use mathlib.Core.Path.{_≡_};
 ghost use mathlib.Core.Bool.{true, false};
 ghost use lib.ListN.{length};
@@ -46,8 +48,8 @@ pub fn normalize_checked(
             target,
             codes::kind_of(kind),
             exons,
-            positions::bound_of(cds_start),
-            positions::bound_of(cds_end),
+            codes::bound_of(cds_start),
+            codes::bound_of(cds_end),
             from,
             to,
             codes::edit_of(edit),

@@ -1,15 +1,14 @@
 -- What a signed number of the caller's is read as, where a test found it below 0 or not. Assumes nothing.
 use mathlib.Core.Path.{_≡_, refl}
 use mathlib.Core.Bool.{true, false}
-use Prim.Native.Nat.{ℕ, zero, suc}
+use Prim.Native.Nat.{ℕ}
 use native.Mathlib.Omega.{arith}
 use lib.IntN.{ℤ, pos, negsuc, natAbs}
 use lib.Dec.{T}
 use lib.Signed.{ltZ, nonNeg}
-use borrow.Author.Tests.{ltb-true, ltb-false}
+use borrow.Author.Tests.{ltb-true}
 use Rattle.definition.specs.declared.Coordinate.the-variants.{Natural, Below}
-use Rattle.definition.specs.declared.Bound.the-variants.{Absent, At, Negative}
-use Rattle.definition.specs.Request.{coordinateOf, boundOf}
+use Rattle.definition.specs.Request.{coordinateOf}
 
 pub not-below : (z : ℤ) → ltZ z (pos 0) ≡ false → T (nonNeg z)
 not-below (pos n) e = tt
@@ -26,28 +25,5 @@ pub coordinate-natural : (z : ℤ) → ltZ z (pos 0) ≡ false → Natural (reco
 unfolding coordinateOf
 coordinate-natural (pos n) e = refl
 coordinate-natural (negsuc n) e =
-    let z : _≡_ {A = ℕ} 0 1 = cc in
-    absurd (omega arith)
-
-pub bound-negative : (z : ℤ) → ltZ z (negsuc 0) ≡ true → Negative ≡ boundOf z
-unfolding boundOf
-bound-negative (pos n) e =
-    let z : _≡_ {A = ℕ} 0 1 = cc in
-    absurd (omega arith)
-bound-negative (negsuc zero) e =
-    let z : _≡_ {A = ℕ} 0 1 = cc in
-    absurd (omega arith)
-bound-negative (negsuc (suc n)) e = refl
-
-pub bound-absent : (z : ℤ) → ltZ z (negsuc 0) ≡ false → ltZ z (pos 0) ≡ true → Absent ≡ boundOf z
-unfolding boundOf
-bound-absent (pos n) d e = absurd (omega (arith, ltb-true n 0 e))
-bound-absent (negsuc zero) d e = refl
-bound-absent (negsuc (suc n)) d e = absurd (omega (arith, ltb-false 0 (suc n) d))
-
-pub bound-at : (z : ℤ) → ltZ z (pos 0) ≡ false → At (natAbs z) ≡ boundOf z
-unfolding boundOf
-bound-at (pos n) e = refl
-bound-at (negsuc n) e =
     let z : _≡_ {A = ℕ} 0 1 = cc in
     absurd (omega arith)

@@ -2,15 +2,11 @@
 use mathlib.Core.Path.{sym, _∙_}
 use Rattle.definition.proofs.Fixes.{Fixes}
 use Rattle.positions.proofs.coordinate_of.Reads as coordinate-of
-use Rattle.positions.proofs.bound_of.Reads as bound-of
 use Rattle.positions.proofs.one_based.Reads as one-based
 use Rattle.positions.proofs.before_gap.Reads as before-gap
 
 pub coordinate-of-one : Fixes (λ κs x at. x) coordinate-of.Post
 coordinate-of-one κs a x y atX atY p q = p ∙ sym q
-
-pub bound-of-one : Fixes (λ κs x at. x) bound-of.Post
-bound-of-one κs a x y atX atY p q = p ∙ sym q
 
 pub one-based-one : Fixes (λ κs x at. x .0) one-based.Post
 one-based-one κs a x y atX atY p q = p ∙ sym q

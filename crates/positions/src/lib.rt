@@ -1,8 +1,7 @@
-// The positions of a request: a signed number of the caller's read once, and the two kinds of position converted.
+// The positions of a request: a signed end of the range read once, and the two kinds of position converted.
 ghost use mathlib.Core.Path.{_≡_};
 ghost use Prim.Native.Nat.{_+_, _≤_};
-ghost use Rattle.definition.specs.Request.{coordinateOf, boundOf};
-use definition::Bound;
+ghost use Rattle.definition.specs.Request.{coordinateOf};
 use definition::Coordinate;
 use definition::One;
 use definition::Zero;
@@ -15,19 +14,6 @@ pub fn coordinate_of(position: i32) -> Coordinate
         return Coordinate::Below;
     }
     Coordinate::Natural(Zero(position as usize))
-}
-
-// A CDS bound, signed as the caller gives it: -1 is absent, another negative number breaks a table rule.
-pub fn bound_of(number: i64) -> Bound
-    ensures { λ r. ⌜ r ≡ boundOf number ⌝ }
-{
-    if number < -1 {
-        return Bound::Negative;
-    }
-    if number < 0 {
-        return Bound::Absent;
-    }
-    Bound::At(number as usize)
 }
 
 // The number of the base at a position.

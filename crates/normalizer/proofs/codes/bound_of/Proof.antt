@@ -1,13 +1,14 @@
--- `positions::bound_of` meets its contract: what the machine reads back of the number is the number, and the tests found it below -1, below 0
+-- `normalizer::codes::bound_of` meets its contract: what the machine reads back of the number is the number, and the tests found it below -1, below 0
 -- or neither. Assumes nothing.
 use lib.Dec.{lit<}
 use lib.Signed.{natAbs-le}
 use native.Mathlib.Nat.{lt-of-le-of-lt}
 use mir.Syntax.{w64}
 use mir.ValLaws.{toZ-ofZ}
-use Rattle.positions.proofs.Signed.{not-below, bound-negative, bound-absent, bound-at}
-use Rattle.positions.proofs.bound_of.Statement.{statement}
-use Rattle.positions.proofs.bound_of.Tie as tie
+use Rattle.positions.proofs.Signed.{not-below}
+use Rattle.normalizer.proofs.Bounds.{bound-negative, bound-absent, bound-at}
+use Rattle.normalizer.proofs.codes.bound_of.Statement.{statement}
+use Rattle.normalizer.proofs.codes.bound_of.Tie as tie
 
 returns : tie.Need-returns
 returns c =
