@@ -1,12 +1,8 @@
 -- Each public contract decides its result: two results that it allows are equal. Assumes nothing.
 use mathlib.Core.Path.{sym, _∙_}
 use Rattle.definition.proofs.Fixes.{Fixes}
-use Rattle.positions.proofs.coordinate_of.Reads as coordinate-of
 use Rattle.positions.proofs.one_based.Reads as one-based
 use Rattle.positions.proofs.before_gap.Reads as before-gap
-
-pub coordinate-of-one : Fixes (λ κs x at. x) coordinate-of.Post
-coordinate-of-one κs a x y atX atY p q = p ∙ sym q
 
 pub one-based-one : Fixes (λ κs x at. x .0) one-based.Post
 one-based-one κs a x y atX atY p q = p ∙ sym q

@@ -1,2 +1,3 @@
+pub mod Signed
 pub mod Read
 pub mod Unique

@@ -1,5 +1,6 @@
 // Row 5: the two ends of the range, read and held to the target.
 ghost use mathlib.Core.Path.{_≡_};
+ghost use Rattle.definition.specs.Request.{coordinateOf};
 ghost use Rattle.ranges.specs.Range.{orderedRange, rangeOf, rangeRead};
 use definition::Coordinate;
 use definition::Zero;
@@ -8,6 +9,16 @@ use definition::Zero;
 pub enum Range {
     Within(Zero, Zero),
     Outside,
+}
+
+// An end of the range, signed as the caller gives it: no other function meets a number below 0.
+fn coordinate_of(position: i32) -> Coordinate
+    ensures { λ r. ⌜ r ≡ coordinateOf position ⌝ }
+{
+    if position < 0 {
+        return Coordinate::Below;
+    }
+    Coordinate::Natural(Zero(position as usize))
 }
 
 // Two positions in their order, inside the target.
@@ -40,7 +51,7 @@ fn range_of(first: Coordinate, last: Coordinate, size: usize) -> Range
 pub fn range_within(start: i32, end: i32, size: usize) -> Range
     ensures { λ r. ⌜ r ≡ rangeRead start end size ⌝ }
 {
-    let first = positions::coordinate_of(start);
-    let last = positions::coordinate_of(end);
+    let first = coordinate_of(start);
+    let last = coordinate_of(end);
     range_of(first, last, size)
 }

@@ -5,7 +5,7 @@ use lib.Signed.{natAbs-le}
 use native.Mathlib.Nat.{lt-of-le-of-lt}
 use mir.Syntax.{w64}
 use mir.ValLaws.{toZ-ofZ}
-use Rattle.positions.proofs.Signed.{not-below}
+use Rattle.ranges.proofs.Signed.{not-below}
 use Rattle.normalizer.proofs.Bounds.{bound-negative, bound-absent, bound-at}
 use Rattle.normalizer.proofs.codes.bound_of.Statement.{statement}
 use Rattle.normalizer.proofs.codes.bound_of.Tie as tie

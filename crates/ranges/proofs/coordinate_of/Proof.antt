@@ -1,13 +1,13 @@
--- `positions::coordinate_of` meets its contract: what the machine reads back of the number is the number, and the test found it below 0 or not.
+-- `ranges::coordinate_of` meets its contract: what the machine reads back of the number is the number, and the test found it below 0 or not.
 -- Assumes nothing.
 use lib.Dec.{lit<}
 use lib.Signed.{natAbs-le}
 use native.Mathlib.Nat.{lt-of-le-of-lt}
 use mir.Syntax.{w32}
 use mir.ValLaws.{toZ-ofZ}
-use Rattle.positions.proofs.Signed.{not-below, coordinate-below, coordinate-natural}
-use Rattle.positions.proofs.coordinate_of.Statement.{statement}
-use Rattle.positions.proofs.coordinate_of.Tie as tie
+use Rattle.ranges.proofs.Signed.{not-below, coordinate-below, coordinate-natural}
+use Rattle.ranges.proofs.coordinate_of.Statement.{statement}
+use Rattle.ranges.proofs.coordinate_of.Tie as tie
 
 returns : tie.Need-returns
 returns c =
