@@ -3,17 +3,9 @@ use mathlib.Core.Path.{sym, _∙_}
 use Rattle.definition.proofs.Fixes.{Fixes}
 use Rattle.edits.proofs.bad_insertion.Reads as bad-insertion
 use Rattle.edits.proofs.reads_alternative.Reads as reads-alternative
-use Rattle.edits.proofs.too_long.Reads as too-long
-use Rattle.edits.proofs.bad_allele.Reads as bad-allele
 
 pub bad-insertion-one : Fixes (λ κs x at. x) bad-insertion.Post
 bad-insertion-one κs a x y atX atY p q = p ∙ sym q
 
 pub reads-alternative-one : Fixes (λ κs x at. x) reads-alternative.Post
 reads-alternative-one κs a x y atX atY p q = p ∙ sym q
-
-pub too-long-one : Fixes (λ κs x at. x) too-long.Post
-too-long-one κs a x y atX atY p q = p ∙ sym q
-
-pub bad-allele-one : Fixes (λ κs x at. x) bad-allele.Post
-bad-allele-one κs a x y atX atY p q = p ∙ sym q

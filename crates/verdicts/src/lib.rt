@@ -147,10 +147,10 @@ pub fn normalize_range(
     if edits::bad_insertion(edit, start, end, alternative) {
         return Outcome::Refuse(Refusal::BadInsertion);
     }
-    if edits::too_long(edit, start, end, alternative) {
+    if alleles_read::too_long(edit, start, end, alternative) {
         return Outcome::Refuse(Refusal::TooLong);
     }
-    if edits::bad_allele(edit, alternative) {
+    if alleles_read::bad_allele(edit, alternative) {
         return Outcome::Refuse(Refusal::BadAllele);
     }
     if limits::no_room(reference_out.len(), alternative_out.len()) {

@@ -1,10 +1,10 @@
--- `edits::bad_allele` meets its contract: an alternative that is not read holds no other byte. Assumes nothing.
+-- `alleles_read::bad_allele` meets its contract: an alternative that is not read holds no other byte. Assumes nothing.
 use mathlib.Core.Path.{ap, sym, _∙_}
 use mathlib.Core.Bool.{not}
-use Rattle.edits.proofs.Read.{bases-read, bases-not-read}
+use Rattle.alleles_read.proofs.Read.{bases-read, bases-not-read}
 use borrow.Author.Needs.{needs}
-use Rattle.edits.proofs.bad_allele.Statement.{statement}
-use Rattle.edits.proofs.bad_allele.Tie as tie
+use Rattle.alleles_read.proofs.bad_allele.Statement.{statement}
+use Rattle.alleles_read.proofs.bad_allele.Tie as tie
 
 reads-alternative-requires : tie.Need-reads-alternative-requires
 reads-alternative-requires c κs = search needs

@@ -1,8 +1,8 @@
--- `edits::too_long` meets its contract: an alternative that is not read is as long as none. Assumes nothing.
-use Rattle.edits.proofs.Read.{exceeds-read}
+-- `alleles_read::too_long` meets its contract: an alternative that is not read is as long as none. Assumes nothing.
+use Rattle.alleles_read.proofs.Read.{exceeds-read}
 use borrow.Author.Needs.{needs}
-use Rattle.edits.proofs.too_long.Statement.{statement}
-use Rattle.edits.proofs.too_long.Tie as tie
+use Rattle.alleles_read.proofs.too_long.Statement.{statement}
+use Rattle.alleles_read.proofs.too_long.Tie as tie
 
 reads-alternative-requires : tie.Need-reads-alternative-requires
 reads-alternative-requires c κs = search needs
