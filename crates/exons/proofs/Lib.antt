@@ -1,3 +1,2 @@
 pub mod Pairs
-pub mod Turns
 pub mod Unique

@@ -1,9 +1,9 @@
-// The exon table's bytes where they lie, 32-bit little-endian pairs: an exon of it, and whether all are in order.
+// The exon table's bytes where they lie, 32-bit little-endian pairs, read one exon at a time.
 ghost use mathlib.Core.Path.{_≡_};
 ghost use mathlib.Core.List.{_∷_};
 ghost use Prim.Native.Nat.{_+_, _*_, _<_, _≤_};
 ghost use lib.ListN.{length, drop};
-ghost use Rattle.definition.specs.Piece.{exonsIn, exonsInOrder};
+ghost use Rattle.definition.specs.Piece.{exonsIn};
 ghost use Rattle.exons.specs.Numbers.{numberAt};
 use definition::Exon;
 use definition::Zero;
@@ -36,27 +36,4 @@ pub fn exon_at(table: &[u8], i: usize) -> Exon
         start: Zero(number_at(table, at)),
         end: Zero(number_at(table, at + 4)),
     }
-}
-
-// Each start below its end and at or after the end before it, and the last end at the target's end.
-pub fn exons_in_order(table: &[u8], size: usize) -> bool
-    ensures { λ r. ⌜ r ≡ exonsInOrder size 0 (exonsIn (now (table .entry))) ⌝ }
-{
-    let exons = table.len() / 8;
-    let mut before = 0;
-    let mut i = 0;
-    while i < exons {
-        let exon = exon_at(table, i);
-        let start = exon.start.0;
-        let end = exon.end.0;
-        if start < before {
-            return false;
-        }
-        if end <= start {
-            return false;
-        }
-        before = end;
-        i += 1;
-    }
-    before == size
 }

@@ -1,14 +1,14 @@
--- `exons::exons_in_order` meets its contract. The invariant: the exons from place i on are in order after `before` exactly if the table is in order.
+-- `exon_order::exons_in_order` meets its contract. The invariant: the exons from place i on are in order after `before` exactly if the table is in order.
 -- The measure is the exons left. Assumes nothing.
 use mathlib.Core.Path.{_≡_, refl, sym, _∙_}
 use Prim.Native.Nat.{_≤_, _-_}
 use native.Mathlib.Omega.{arith}
 use lib.ListN.{drop}
 use Rattle.definition.specs.Piece.{exonsIn, exonsInOrder}
 use Rattle.exons.proofs.Pairs.{no-more}
-use Rattle.exons.proofs.Turns.{starts-early, ends-early, goes-on}
-use Rattle.exons.proofs.exons_in_order.Statement.{statement}
-use Rattle.exons.proofs.exons_in_order.Tie as tie
+use Rattle.exon_order.proofs.Turns.{starts-early, ends-early, goes-on}
+use Rattle.exon_order.proofs.exons_in_order.Statement.{statement}
+use Rattle.exon_order.proofs.exons_in_order.Tie as tie
 
 abbrev Inv-loop : tie.InvT-loop
 Inv-loop table size exons before₀ i₀ before i = (i ≤ exons) × (exonsInOrder size before (drop i (exonsIn table)) ≡ exonsInOrder size 0 (exonsIn table))
