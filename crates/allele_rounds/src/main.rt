@@ -17,7 +17,7 @@ fn lent(rounds: u32) -> usize {
     let mut shared: usize = 0;
     let mut i: u32 = 0;
     while i < rounds {
-        let stepped = windows::normalize_alleles_right_inner(
+        let stepped = windows_right::normalize_alleles_right_inner(
             &RUN,
             0,
             21,

@@ -16,8 +16,9 @@ use Rattle.alleles.specs.declared.Allele.{Allele}
 use Rattle.rotating.specs.Window.{window}
 use Rattle.alleles.specs.Held.{held}
 use Rattle.rotating.proofs.Laws.{window-length}
-use Rattle.windows.specs.declared.Stepped.{Stepped}
-use Rattle.windows.specs.Moves.{SteppedRight, SteppedLeft}
+use Rattle.windows_right.specs.declared.Stepped.{Stepped}
+use Rattle.windows_right.specs.Moves.{SteppedRight}
+use Rattle.windows_left.specs.Moves.{SteppedLeft}
 use Rattle.slides.specs.Slides.{Poised, Slid}
 use Rattle.slides.proofs.Standing.{extra, added}
 use Rattle.slides.proofs.Slides.{Sliding, AtEdge, ended, starts, sizes, slides-right, slides-left}

@@ -20,7 +20,8 @@ use Rattle.definition.proofs.Prefixes.{lcp-le-left, lcp-le-right, lcs-le-left, 
 use Rattle.definition.proofs.Places.{length-splice, splice-lcp, splice-lcs, from-edge, to-edge}
 use Rattle.definition.proofs.Parts.{counted-part}
 use Rattle.slides.proofs.Standing.{Stands, extra, added, shorter}
-use Rattle.windows.specs.Moves.{WindowedRight, WindowedLeft}
+use Rattle.windows_right.specs.Moves.{WindowedRight}
+use Rattle.windows_left.specs.Moves.{WindowedLeft}
 use Rattle.slides.proofs.Steps.{At, onwards, backwards, step-right, step-left}
 
 -- what was inserted is a part of the altered sequence

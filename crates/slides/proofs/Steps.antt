@@ -8,7 +8,8 @@ use lib.ListN.{length, take, drop}
 use lib.Seq.{slice, length-slice}
 use Rattle.definition.specs.Prefix.{lcp, lcs}
 use Rattle.definition.proofs.Prefixes.{lcp-le-left, lcp-le-right}
-use Rattle.windows.specs.Moves.{WindowedRight, WindowedLeft}
+use Rattle.windows_right.specs.Moves.{WindowedRight}
+use Rattle.windows_left.specs.Moves.{WindowedLeft}
 use Rattle.slides.proofs.Standing.{Stands, extra, added, shorter, shared-right, reference-onward, alternative-onward, shared-left, reference-back, alternative-back}
 
 module _ (target after : List ℕ) where

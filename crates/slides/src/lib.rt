@@ -38,7 +38,7 @@ pub fn slide_right(
     let mut place = start;
     let mut differing: usize = 0;
     while differing == 0 && place + rn < edge {
-        let step = windows::normalize_alleles_right_inner(
+        let step = windows_right::normalize_alleles_right_inner(
             target,
             place,
             edge,
@@ -89,7 +89,7 @@ pub fn slide_left(
     let mut place = start;
     let mut differing: usize = 0;
     while differing == 0 && edge < place {
-        let stepped = windows::normalize_alleles_left_inner(
+        let stepped = windows_left::normalize_alleles_left_inner(
             target,
             place,
             edge,

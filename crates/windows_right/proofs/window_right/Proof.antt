@@ -1,9 +1,9 @@
--- `windows::window_right` meets its contract, by what its three calls ensure.
+-- `windows_right::window_right` meets its contract, by what its three calls ensure.
 -- Assumes nothing.
 use borrow.Author.Needs.{needs}
-use Rattle.windows.proofs.Moves.{windowed-right}
-use Rattle.windows.proofs.window_right.Statement.{statement}
-use Rattle.windows.proofs.window_right.Tie as tie
+use Rattle.windows_right.proofs.Moves.{windowed-right}
+use Rattle.windows_right.proofs.window_right.Statement.{statement}
+use Rattle.windows_right.proofs.window_right.Tie as tie
 
 store-back-requires : tie.Need-store-back-requires
 store-back-requires c κs = search needs

@@ -1,10 +1,10 @@
--- `windows::window_left` meets its contract, by what its three calls ensure.
+-- `windows_left::window_left` meets its contract, by what its three calls ensure.
 -- Assumes nothing.
 use borrow.Author.Needs.{needs}
 use native.Mathlib.Omega.{arith}
-use Rattle.windows.proofs.Moves.{windowed-left}
-use Rattle.windows.proofs.window_left.Statement.{statement}
-use Rattle.windows.proofs.window_left.Tie as tie
+use Rattle.windows_left.proofs.Moves.{windowed-left}
+use Rattle.windows_left.proofs.window_left.Statement.{statement}
+use Rattle.windows_left.proofs.window_left.Tie as tie
 
 store-front-requires : tie.Need-store-front-requires
 store-front-requires c κs = search needs

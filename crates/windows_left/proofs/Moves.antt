@@ -1,29 +1,21 @@
--- One window of the move: how much two alleles share once the chunk is beside both, and where what is left of each then stands.
--- Assumes nothing.
+-- One window of the move leftward: how much two alleles end with in common once the chunk is before both, and where what is left of each then
+-- stands. Assumes nothing.
 use Prim.Native.Nat.{ℕ, _+_, _-_, _%_, _≤_, min}
 use native.Mathlib.Omega.{arith}
 use mathlib.Core.Path.{_≡_, sym, ap, ap₂, _∙_}
 use mathlib.Core.List.{List, _++_}
 use lib.ListN.{length, take, drop}
-use Rattle.definition.specs.Prefix.{lcp, lcs}
+use Rattle.definition.specs.Prefix.{lcs}
 use Rattle.rotating.specs.Window.{window}
-use Rattle.windows.specs.Moves.{WindowedRight, WindowedLeft}
-use Rattle.rotating.proofs.Laws.{window-length, window-round, window-take, window-drop, window-part}
-use Rattle.ends.proofs.Ends.{front, back, fits}
+use Rattle.windows_left.specs.Moves.{WindowedLeft}
+use Rattle.rotating.proofs.Laws.{window-length, window-round, window-take, window-drop}
+use Rattle.ends.proofs.Ends.{back, fits}
 
 on-from : (x m : ℕ) → (x + m) % 2048 % 2048 ≡ (x % 2048 + m) % 2048
 on-from x m = omega arith
 
 -- xs is the array before the chunk was stored, ys after; n bases come off
 module _ (xs ys chunk : List ℕ) (head count n : ℕ) (within : n ≤ length chunk) where
-  -- the chunk stands behind: the rest begins n places on
-  rest-right : window ys head (count + length chunk) ≡ window xs head count ++ chunk
-      → window ys ((head + n) % 2048) count ≡ take (length (window xs head count)) (drop n (window xs head count ++ chunk))
-  rest-right e =
-      window-round ys ((head + n) % 2048) (head + n) count (omega arith)
-      ∙ sym (window-part ys head n count (count + length chunk) (omega arith))
-      ∙ ap₂ (λ (k : ℕ) (l : List ℕ). take k (drop n l)) (sym (window-length xs head count)) e
-
   -- the chunk stands before: the rest begins n places back
   rest-left : (first : ℕ) → length chunk ≤ 2048 → first ≡ (head + 2048 - length chunk) % 2048
       → window ys first (count + length chunk) ≡ chunk ++ window xs head count
@@ -43,20 +35,6 @@ module _ (xs ys chunk : List ℕ) (head count n : ℕ) (within : n ≤ length ch
 
 -- r and a are the arrays before, r′ and a′ after; of an empty allele and another, no more than the chunk is shared
 module _ (r a r′ a′ chunk : List ℕ) (rh rc ah ac n : ℕ) (one : min rc ac ≡ 0) where
-  pub windowed-right : window r′ rh (rc + length chunk) ≡ window r rh rc ++ chunk
-      → window a′ ah (ac + length chunk) ≡ window a ah ac ++ chunk
-      → n ≡ lcp (window r′ rh (rc + length chunk)) (window a′ ah (ac + length chunk))
-      → WindowedRight (window r rh rc) (window a ah ac) chunk (window r′ ((rh + n) % 2048) rc) (window a′ ((ah + n) % 2048) ac) n
-  windowed-right e f shared =
-      let count : n ≡ lcp (window r rh rc ++ chunk) (window a ah ac ++ chunk) = shared ∙ ap₂ lcp e f in
-      let within : n ≤ length chunk = omega (arith, shared, fits front r′ a′ rh (rc + length chunk) ah (ac + length chunk)) in
-      record {
-        count = count;
-        within = within;
-        reference = rest-right r r′ chunk rh rc n within e;
-        alternative = rest-right a a′ chunk ah ac n within f;
-      }
-
   pub windowed-left : (rf af : ℕ) → length chunk ≤ 2048
       → rf ≡ (rh + 2048 - length chunk) % 2048 → af ≡ (ah + 2048 - length chunk) % 2048
       → window r′ rf (rc + length chunk) ≡ chunk ++ window r rh rc

@@ -1,4 +1,4 @@
--- `windows::normalize_alleles_right_inner` meets its contract: the chunk is the part of the target behind the change. Assumes nothing.
+-- `windows_right::normalize_alleles_right_inner` meets its contract: the chunk is the part of the target behind the change. Assumes nothing.
 use borrow.Author.Needs.{needs}
 use native.Mathlib.Omega.{arith}
 use Prim.Native.Nat.{_+_, _-_}
@@ -6,8 +6,8 @@ use mathlib.Core.Path.{_≡_, ap, _∙_}
 use lib.ListN.{length, take, drop}
 use lib.Seq.{length-slice}
 use Rattle.definition.proofs.Parts.{lent-part}
-use Rattle.windows.proofs.normalize_alleles_right_inner.Statement.{statement}
-use Rattle.windows.proofs.normalize_alleles_right_inner.Tie as tie
+use Rattle.windows_right.proofs.normalize_alleles_right_inner.Statement.{statement}
+use Rattle.windows_right.proofs.normalize_alleles_right_inner.Tie as tie
 
 add-from : tie.Need-add-from
 add-from c = search needs

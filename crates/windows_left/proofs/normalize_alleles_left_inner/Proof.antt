@@ -1,4 +1,4 @@
--- `windows::normalize_alleles_left_inner` meets its contract: the chunk is the part of the target before the change. Assumes nothing.
+-- `windows_left::normalize_alleles_left_inner` meets its contract: the chunk is the part of the target before the change. Assumes nothing.
 use mathlib.Core.Path.{_≡_, ap, _∙_}
 use Prim.Native.Nat.{_-_}
 use native.Mathlib.Omega.{arith}
@@ -6,8 +6,8 @@ use lib.ListN.{length, take, drop}
 use lib.Seq.{length-slice}
 use borrow.Author.Needs.{needs}
 use Rattle.definition.proofs.Parts.{lent-part}
-use Rattle.windows.proofs.normalize_alleles_left_inner.Statement.{statement}
-use Rattle.windows.proofs.normalize_alleles_left_inner.Tie as tie
+use Rattle.windows_left.proofs.normalize_alleles_left_inner.Statement.{statement}
+use Rattle.windows_left.proofs.normalize_alleles_left_inner.Tie as tie
 
 sub-least : tie.Need-sub-least
 sub-least c = search needs
