@@ -1,2 +1,1 @@
-pub mod Within
 pub mod Unique

@@ -2,10 +2,6 @@
 use mathlib.Core.Path.{sym, _∙_}
 use Rattle.definition.proofs.Fixes.{Fixes}
 use Rattle.boundary.proofs.get_boundary.Reads as get-boundary
-use Rattle.boundary.proofs.piece_for.Reads as piece-for
 
 pub get-boundary-one : Fixes (λ κs x at. x) get-boundary.Post
 get-boundary-one κs a x y atX atY p q = p ∙ sym q
-
-pub piece-for-one : Fixes (λ κs x at. x) piece-for.Post
-piece-for-one κs a x y atX atY p q = p ∙ sym q

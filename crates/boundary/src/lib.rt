@@ -1,13 +1,10 @@
-// The piece of a range, rows 12 to 15: the exon that holds it, cut at the CDS bounds.
+// The piece of a range on a transcript, rows 12 to 15: the exon that holds it, cut at the CDS bounds.
 ghost use mathlib.Core.Path.{_≡_};
 ghost use Prim.Native.Nat.{_<_};
-ghost use Rattle.definition.specs.Piece.{exonsIn, piecesOf, exonPiece, wholePiece, transcriptPiece, pieceFor};
+ghost use Rattle.definition.specs.Piece.{exonsIn, piecesOf, exonPiece, transcriptPiece};
 ghost use Rattle.search.specs.InOrder.{InOrder};
-ghost use Rattle.boundary.specs.ReadInOrder.{ReadInOrder};
 use definition::Bound;
 use definition::ExonFound;
-use definition::Kind;
-use definition::OPEN_END;
 use definition::Piece;
 use definition::PieceFound;
 use definition::Refusal;
@@ -51,32 +48,4 @@ pub fn get_boundary(
     let exon = exon_piece(first, last);
     let cut = cuts::cut_at(cds_start, start, end, exon);
     cuts::cut_at(cds_end, start, end, cut)
-}
-
-fn whole_piece() -> Piece
-    ensures { λ r. ⌜ r ≡ wholePiece ⌝ }
-{
-    Piece {
-        left: Zero(0),
-        right: Zero(OPEN_END),
-    }
-}
-
-// The piece of a range: open targets and crossing transcripts have one piece, and their tables are not read.
-pub fn piece_for(
-    kind: Kind,
-    table: &[u8],
-    cds_start: Bound,
-    cds_end: Bound,
-    start: Zero,
-    end: Zero,
-) -> PieceFound
-    requires { ⌜ (start .0 < end .0) × ReadInOrder kind (now table) ⌝ }
-    ensures { λ r. ⌜ r ≡ pieceFor kind (now (table .entry)) «cds_start» «cds_end» (start .0) (end .0) ⌝ }
-{
-    match kind {
-        Kind::Transcript => get_boundary(table, cds_start, cds_end, start, end),
-        Kind::Open => PieceFound::InPiece(whole_piece()),
-        Kind::Crossing => PieceFound::InPiece(whole_piece()),
-    }
 }

@@ -58,11 +58,11 @@ fn found_for(
     requires { ⌜ start .0 < end .0 ⌝ }
 {
     match kind {
-        Kind::Open => boundary::piece_for(kind, table, cds_start, cds_end, start, end),
-        Kind::Crossing => boundary::piece_for(kind, table, cds_start, cds_end, start, end),
+        Kind::Open => pieces::piece_for(kind, table, cds_start, cds_end, start, end),
+        Kind::Crossing => pieces::piece_for(kind, table, cds_start, cds_end, start, end),
         Kind::Transcript => {
             if tables::tables_hold(table, cds_start, cds_end, size) {
-                return boundary::piece_for(kind, table, cds_start, cds_end, start, end);
+                return pieces::piece_for(kind, table, cds_start, cds_end, start, end);
             }
             PieceFound::NoPiece(Refusal::BadTables)
         }

@@ -18,8 +18,8 @@ use Rattle.definition.specs.Limits.{longestAllele, answerRoom}
 use Rattle.definition.specs.Verdict.{Verdict, refused, afterShortcuts, shortcut, refusedOr, misfits, exceeds, readAlternative, cramped, tablesBroken}
 use Rattle.definition.proofs.Tests.{or-false}
 use Rattle.definition.specs.Piece.{tablesHold, pieceFor}
-use Rattle.boundary.specs.ReadInOrder.{ReadInOrder}
-use Rattle.boundary.proofs.Within.{table-in-order}
+use Rattle.pieces.specs.ReadInOrder.{ReadInOrder}
+use Rattle.pieces.proofs.Within.{table-in-order}
 use Rattle.buffers.specs.Asked.{Room}
 use Rattle.verdicts.specs.Passed.{rangeVerdict}
 

@@ -5,7 +5,7 @@ use Prim.Native.Nat.{ℕ, _-_, _≤_, _<_}
 use lib.ListN.{length}
 use Rattle.definition.specs.declared.Edit.{Edit}
 use Rattle.definition.specs.declared.Kind.{Kind}
-use Rattle.boundary.specs.ReadInOrder.{ReadInOrder}
+use Rattle.pieces.specs.ReadInOrder.{ReadInOrder}
 use Rattle.definition.specs.declared.Bound.{Bound}
 use Rattle.definition.specs.declared.Direction.{Direction}
 use Rattle.definition.specs.declared.Refusal.the-variants.{BadInsertion, TooLong, BadAllele, NoRoom, BadTables}

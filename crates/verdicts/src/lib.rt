@@ -42,7 +42,7 @@ fn answer_in_piece(
         (pieceFor kind (now (exons .entry)) «cds_start» «cds_end» (start .0) (end .0)))
         r (now («reference_out» .entry)) (now («reference_out» .exit)) (now («alternative_out» .entry)) (now («alternative_out» .exit)) ⌝ }
 {
-    match boundary::piece_for(kind, exons, cds_start, cds_end, start, end) {
+    match pieces::piece_for(kind, exons, cds_start, cds_end, start, end) {
         PieceFound::InPiece(piece) => spelling::spell(
             target,
             kind,

@@ -1,7 +1,7 @@
 -- `boundary_rows::found_for` is safe: what `piece_for` asks of a transcript's table is what `tables_hold` said of it. Assumes nothing.
 use mathlib.Core.Path.{sym, _∙_}
 use borrow.Author.Needs.{needs}
-use Rattle.boundary.proofs.Within.{table-in-order}
+use Rattle.pieces.proofs.Within.{table-in-order}
 use Rattle.boundary_rows.proofs.found_for.Statement.{statement}
 use Rattle.boundary_rows.proofs.found_for.Tie as tie
 

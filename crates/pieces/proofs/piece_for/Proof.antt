@@ -1,8 +1,8 @@
--- `boundary::piece_for` meets its contract: the kind says which case holds, and only a transcript asks that its table is in order. Assumes nothing.
+-- `pieces::piece_for` meets its contract: the kind says which case holds, and only a transcript asks that its table is in order. Assumes nothing.
 use borrow.Author.Needs.{needs}
 use Rattle.definition.specs.Piece.{pieceFor}
-use Rattle.boundary.proofs.piece_for.Statement.{statement}
-use Rattle.boundary.proofs.piece_for.Tie as tie
+use Rattle.pieces.proofs.piece_for.Statement.{statement}
+use Rattle.pieces.proofs.piece_for.Tie as tie
 
 enum-told : tie.Need-enum-told
 enum-told c = search needs

@@ -1,8 +1,8 @@
--- `boundary::whole_piece` meets its contract: it is the definition. Assumes nothing.
+-- `pieces::whole_piece` meets its contract: it is the definition. Assumes nothing.
 use mathlib.Core.Path.{refl}
 use Rattle.definition.specs.Piece.{wholePiece}
-use Rattle.boundary.proofs.whole_piece.Statement.{statement}
-use Rattle.boundary.proofs.whole_piece.Tie as tie
+use Rattle.pieces.proofs.whole_piece.Statement.{statement}
+use Rattle.pieces.proofs.whole_piece.Tie as tie
 
 returns : tie.Need-returns
 unfolding wholePiece
