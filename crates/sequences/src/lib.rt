@@ -1,9 +1,7 @@
-// Sequences of bases: what two alleles share at either end, and what is left of each without it. No function reads outside its slice.
+// Sequences of bases: how much two alleles share at either end. No function reads outside its slice.
 // The Rust gives a count and both trimmed alleles in one answer. A struct that holds two slices is not a covered form, so here the count
-// is one function, and the rest of an allele another, that serves both alleles.
+// comes back alone, and a caller takes the rest of each allele by it.
 ghost use mathlib.Core.Path.{_≡_};
-ghost use Prim.Native.Nat.{_-_, _≤_};
-ghost use lib.ListN.{length, take, drop};
 ghost use Rattle.definition.specs.Prefix.{lcp, lcs};
 
 // How long a beginning the two share.
@@ -36,21 +34,4 @@ pub fn trim_common_suffixes(reference: &[u8], alternative: &[u8]) -> usize
         i += 1;
     }
     i
-}
-
-// What is left of an allele without its first `front` bytes.
-pub fn after(allele: &[u8], front: usize) -> &[u8]
-    requires { ⌜ front ≤ length (now allele) ⌝ }
-    ensures { λ r. ⌜ now r ≡ drop front (now (allele .entry)) ⌝ }
-{
-    &allele[front..]
-}
-
-// What is left of an allele without its last `back` bytes.
-pub fn before_last(allele: &[u8], back: usize) -> &[u8]
-    requires { ⌜ back ≤ length (now allele) ⌝ }
-    ensures { λ r. ⌜ now r ≡ take (length (now (allele .entry)) - back) (now (allele .entry)) ⌝ }
-{
-    let end = allele.len() - back;
-    &allele[..end]
 }

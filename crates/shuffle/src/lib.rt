@@ -1,10 +1,30 @@
 // The shuffles: what the alleles of a change share is counted, from the front first or from the back first, and the change without it moves.
+ghost use mathlib.Core.Path.{_≡_};
+ghost use Prim.Native.Nat.{_-_, _≤_};
+ghost use lib.ListN.{length, take, drop};
 ghost use Rattle.definition.specs.declared.Direction.the-variants.{Rightward, Leftward};
 ghost use Rattle.moves.specs.Settled.{Asked, Settled};
 use definition::Direction;
 use definition::Piece;
 use definition::Zero;
 use slides::Shuffled;
+
+// What is left of an allele without its first `front` bytes.
+fn after(allele: &[u8], front: usize) -> &[u8]
+    requires { ⌜ front ≤ length (now allele) ⌝ }
+    ensures { λ r. ⌜ now r ≡ drop front (now (allele .entry)) ⌝ }
+{
+    &allele[front..]
+}
+
+// What is left of an allele without its last `back` bytes.
+fn before_last(allele: &[u8], back: usize) -> &[u8]
+    requires { ⌜ back ≤ length (now allele) ⌝ }
+    ensures { λ r. ⌜ now r ≡ take (length (now (allele .entry)) - back) (now (allele .entry)) ⌝ }
+{
+    let end = allele.len() - back;
+    &allele[..end]
+}
 
 // Rightward: the front that both alleles share comes off first, then the back.
 pub fn normalize_alleles_5_to_3(
@@ -22,8 +42,8 @@ pub fn normalize_alleles_5_to_3(
     let past = to.0;
     let reference = &target[first..past];
     let front = sequences::trim_common_prefixes(reference, inserted);
-    let rest = sequences::after(reference, front);
-    let other = sequences::after(inserted, front);
+    let rest = after(reference, front);
+    let other = after(inserted, front);
     let back = sequences::trim_common_suffixes(rest, other);
     moves::move_trimmed(
         target,
@@ -54,8 +74,8 @@ pub fn normalize_alleles_3_to_5(
     let past = to.0;
     let reference = &target[first..past];
     let back = sequences::trim_common_suffixes(reference, inserted);
-    let rest = sequences::before_last(reference, back);
-    let other = sequences::before_last(inserted, back);
+    let rest = before_last(reference, back);
+    let other = before_last(inserted, back);
     let front = sequences::trim_common_prefixes(rest, other);
     moves::move_trimmed(
         target,

@@ -1,11 +1,11 @@
--- `sequences::after` meets its contract: what is left after the first bytes reaches to the end. Assumes nothing.
+-- `shuffle::after` meets its contract: what is left after the first bytes reaches to the end. Assumes nothing.
 use Prim.Native.Nat.{_-_}
 use native.Mathlib.Omega.{arith}
 use borrow.Author.Needs.{needs}
 use lib.ListN.{length, drop, length-drop}
 use lib.Seq.{take-all}
-use Rattle.sequences.proofs.after.Statement.{statement}
-use Rattle.sequences.proofs.after.Tie as tie
+use Rattle.shuffle.proofs.after.Statement.{statement}
+use Rattle.shuffle.proofs.after.Tie as tie
 
 sub-result : tie.Need-sub-result
 sub-result c = search needs

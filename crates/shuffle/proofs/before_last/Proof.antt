@@ -1,9 +1,9 @@
--- `sequences::before_last` meets its contract: as many bytes as it takes are there. Assumes nothing.
+-- `shuffle::before_last` meets its contract: as many bytes as it takes are there. Assumes nothing.
 use native.Mathlib.Omega.{arith}
 use borrow.Author.Needs.{needs}
 use lib.ListN.{length-take}
-use Rattle.sequences.proofs.before_last.Statement.{statement}
-use Rattle.sequences.proofs.before_last.Tie as tie
+use Rattle.shuffle.proofs.before_last.Statement.{statement}
+use Rattle.shuffle.proofs.before_last.Tie as tie
 
 sub-end : tie.Need-sub-end
 sub-end c = search needs
