@@ -47,8 +47,8 @@ fn by_value(rounds: u32) -> usize {
         let other = alternative.push_back(&WINDOW);
         let trimmed = allele_trims::trim_front(longer, other);
         shared = trimmed.count;
-        reference = trimmed.left.keep_front(1);
-        alternative = trimmed.right.keep_front(0);
+        reference = allele_parts::keep_front(trimmed.left, 1);
+        alternative = allele_parts::keep_front(trimmed.right, 0);
         i += 1;
     }
     shared

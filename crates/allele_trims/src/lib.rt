@@ -1,6 +1,8 @@
 // Two alleles without what they share at one end, by value. What they share is counted in crate `ends`; what is kept of each is a part of its buffer.
 ghost use Rattle.alleles.specs.Held.{Good};
 ghost use Rattle.allele_trims.specs.Trims.{TrimmedFront, TrimmedBack};
+use allele_parts::keep_back;
+use allele_parts::keep_front;
 use alleles::Allele;
 
 // How many bases two alleles share at one end, and the two rests.
@@ -23,8 +25,8 @@ pub fn trim_front(a: Allele, b: Allele) -> Trimmed
     let n = ends::common_front(&a.bytes, a_head, a_count, &b.bytes, b_head, b_count);
     Trimmed {
         count: n,
-        left: a.keep_back(a_count - n),
-        right: b.keep_back(b_count - n),
+        left: keep_back(a, a_count - n),
+        right: keep_back(b, b_count - n),
     }
 }
 
@@ -41,7 +43,7 @@ pub fn trim_back(a: Allele, b: Allele) -> Trimmed
     let n = ends::common_back(&a.bytes, a_head, a_count, &b.bytes, b_head, b_count);
     Trimmed {
         count: n,
-        left: a.keep_front(a_count - n),
-        right: b.keep_front(b_count - n),
+        left: keep_front(a, a_count - n),
+        right: keep_front(b, b_count - n),
     }
 }

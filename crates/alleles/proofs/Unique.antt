@@ -6,7 +6,7 @@ use mathlib.Core.Path.{_≡_}
 use mathlib.Core.List.{List}
 use Rattle.rotating.proofs.Unique.{equal}
 use Rattle.alleles.specs.declared.Allele.{Allele}
-use Rattle.alleles.specs.Held.{held, Holds, WrittenOut}
+use Rattle.alleles.specs.Held.{held, Holds}
 
 -- alleles that cannot be told apart
 pub record Alike (x y : Allele) : Type 0 where
@@ -14,12 +14,7 @@ pub record Alike (x y : Allele) : Type 0 where
   pub count : x .count ≡ y .count
   pub bases : held x ≡ held y
 
--- `Allele::empty`, `filled`, `push_back`, `push_front`, `keep_front` and `keep_back` ensure `Holds`
+-- `Allele::empty`, `filled`, `push_back` and `push_front` ensure `Holds`
 pub holds-alike : {x y : Allele} {place size : ℕ} {list : List ℕ} → Holds x place size list → Holds y place size list → Alike x y
 holds-alike p q =
     record { head = equal (p .head) (q .head); count = equal (p .count) (q .count); bases = equal (p .bases) (q .bases) }
-
--- `Allele::write_out`: the count and the bytes written to
-pub written-out-equal : {allele : Allele} {out after other : List ℕ} {m n : ℕ}
-    → WrittenOut allele out after m → WrittenOut allele out other n → (m ≡ n) × (after ≡ other)
-written-out-equal p q = (equal (p .count) (q .count), equal (p .bytes) (q .bytes))

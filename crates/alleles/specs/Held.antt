@@ -2,7 +2,6 @@
 use Prim.Native.Nat.{ℕ}
 use mathlib.Core.Path.{_≡_}
 use mathlib.Core.List.{List}
-use Rattle.definition.specs.Reply.{written}
 use Rattle.rotating.specs.Window.{window, Placed}
 use Rattle.alleles.specs.declared.Allele.{Allele}
 
@@ -19,8 +18,3 @@ pub record Holds (allele : Allele) (place size : ℕ) (list : List ℕ) : Type 0
   pub head : allele .head ≡ place
   pub count : allele .count ≡ size
   pub bases : held allele ≡ list
-
--- an allele written out: how many bases it has, and the bytes that they were written to
-pub record WrittenOut (allele : Allele) (out out′ : List ℕ) (size : ℕ) : Type 0 where
-  pub count : size ≡ allele .count
-  pub bytes : out′ ≡ written (held allele) out

@@ -1,9 +1,9 @@
-// The rotating buffer that holds an allele while it is moved, by value: 2,048 bytes, head and count together. What is done to its bytes stands in crate
-// `rotating`; here are the head and the count.
+// The rotating buffer that holds an allele while it is moved, by value: 2,048 bytes, head and count together; filled, and made longer at either end.
+// What is done to its bytes stands in crate `rotating`; here are the head and the count.
 ghost use mathlib.Core.List.{[], _++_};
 ghost use Prim.Native.Nat.{_+_, _-_, _%_, _≤_};
-ghost use lib.ListN.{length, take, drop};
-ghost use Rattle.alleles.specs.Held.{held, Good, Holds, WrittenOut};
+ghost use lib.ListN.{length};
+ghost use Rattle.alleles.specs.Held.{held, Good, Holds};
 
 pub struct Allele {
     pub bytes: [u8; 2048],
@@ -56,38 +56,5 @@ impl Allele {
         self.head = rotating::store_front(&mut self.bytes, head, count, part);
         self.count = count + part.len();
         self
-    }
-
-    // The first so many bases alone.
-    pub fn keep_front(mut self, first: usize) -> Self
-        requires { ⌜ Good self ⌝ }
-        requires { ⌜ first ≤ self .count ⌝ }
-        ensures { λ r. ⌜ Holds r (self .head) first (take first (held self)) ⌝ }
-    {
-        self.count = first;
-        self
-    }
-
-    // The last so many bases alone.
-    pub fn keep_back(mut self, last: usize) -> Self
-        requires { ⌜ Good self ⌝ }
-        requires { ⌜ last ≤ self .count ⌝ }
-        ensures { λ r. ⌜ Holds r ((self .head + (self .count - last)) % 2048) last (drop (self .count - last) (held self)) ⌝ }
-    {
-        self.head = (self.head + (self.count - last)) % 2048;
-        self.count = last;
-        self
-    }
-
-    // The bases are written out from byte 0, and how many they are comes back; the bytes after them are unchanged.
-    pub fn write_out(self, out: &mut [u8]) -> usize
-        requires { ⌜ Good self ⌝ }
-        requires { ⌜ self .count ≤ length (now out) ⌝ }
-        ensures { λ r. ⌜ WrittenOut self (now (out .entry)) (now (out .exit)) r ⌝ }
-    {
-        let head = self.head;
-        let count = self.count;
-        rotating::copy_out(&self.bytes, head, count, out);
-        count
     }
 }

@@ -1,5 +1,5 @@
-// The thin forms of `alleles`: the buffer is lent and rotated in place. Each takes the allele out of the reference, calls the by-value
-// function of the same name and stores what comes back; it asks and ensures what that function does, of the buffer at entry and at exit.
+// The thin forms of `alleles`, `allele_parts` and `allele_trims`: the buffer is lent and rotated in place. Each takes the allele out of the reference,
+// calls the by-value function of the same name and stores what comes back; it asks and ensures what that function does, of the buffer at entry and at exit.
 ghost use Prim.Native.Nat.{_+_, _-_, _%_, _≤_};
 ghost use mathlib.Core.List.{_++_};
 ghost use lib.ListN.{length, take, drop};
@@ -31,7 +31,7 @@ pub fn keep_front_in(allele: &mut Allele, first: usize)
     requires { ⌜ Good (now allele) × (first ≤ now allele .count) ⌝ }
     ensures { λ _. ⌜ Holds (now (allele .exit)) (now (allele .entry) .head) first (take first (held (now (allele .entry)))) ⌝ }
 {
-    *allele = (*allele).keep_front(first);
+    *allele = allele_parts::keep_front(*allele, first);
 }
 
 // The last so many bases alone.
@@ -40,7 +40,7 @@ pub fn keep_back_in(allele: &mut Allele, last: usize)
     ensures { λ _. ⌜ Holds (now (allele .exit)) ((now (allele .entry) .head + (now (allele .entry) .count - last)) % 2048)
         last (drop (now (allele .entry) .count - last) (held (now (allele .entry)))) ⌝ }
 {
-    *allele = (*allele).keep_back(last);
+    *allele = allele_parts::keep_back(*allele, last);
 }
 
 // The bases that both alleles begin with come off, and how many they are comes back.

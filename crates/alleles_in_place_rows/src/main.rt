@@ -100,7 +100,7 @@ fn write_allele(allele: Allele)
 {
     let mut bases = [0u8; 2048];
     let head = allele.head;
-    let size = allele.write_out(&mut bases);
+    let size = allele_parts::write_out(allele, &mut bases);
     write_none(size);
     write_first(&bases, size);
     write(b" from place ");

@@ -1,9 +1,9 @@
--- `alleles_in_place::keep_front_in` meets its contract, by what `Allele::keep_front` asks and ensures.
+-- `alleles_in_place::keep_front_in` meets its contract, by what `keep_front` asks and ensures.
 -- Assumes nothing.
 use contract.Monad.{fact-mono}
-use Rattle.alleles.proofs.Allele.keep_front as work
-use Rattle.alleles.proofs.Allele.keep_front.Symbol as work-def
-use Rattle.alleles.proofs.Allele.keep_front.Met as work-thm
+use Rattle.allele_parts.proofs.keep_front as work
+use Rattle.allele_parts.proofs.keep_front.Symbol as work-def
+use Rattle.allele_parts.proofs.keep_front.Met as work-thm
 use Rattle.alleles_in_place.proofs.Facts.{gives-both}
 use Rattle.alleles_in_place.proofs.One.{number, thin}
 use Rattle.alleles_in_place.proofs.keep_front_in as form
@@ -16,4 +16,4 @@ unfolding code.routine
 keep-front-in-spec 𝓤 H 𝓜 𝓖 𝓡 =
     thin number 𝓤 H 𝓜 𝓖 𝓡 (form.clauses 𝓤 H (𝓖 .A) (𝓜 .mem) (𝓡 .run)) (work.clauses 𝓤 H (𝓖 .A) (𝓜 .mem) (𝓡 .run))
     (λ κs a g. (tt, gives-both 𝓤 _ _ _ (λ asked. asked))) (λ κs a g k r ws. fact-mono 𝓤 _ _ (λ ensured. ensured))
-    code.env name work-def.name work-def.routine code.calls-alleles·Allele·keep-front (code.unfolded 𝓤 H 𝓜 𝓡) (work-thm.met 𝓤 H 𝓜 𝓖 𝓡)
+    code.env name work-def.name work-def.routine code.calls-allele-parts·keep-front (code.unfolded 𝓤 H 𝓜 𝓡) (work-thm.met 𝓤 H 𝓜 𝓖 𝓡)

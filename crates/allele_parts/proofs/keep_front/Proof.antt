@@ -1,14 +1,14 @@
--- `alleles::Allele::keep_front` meets its contract: the window from the same place.
+-- `allele_parts::keep_front` meets its contract: the window from the same place.
 -- Assumes nothing.
 use borrow.Author.Needs.{needs}
 use mathlib.Core.Path.{refl, sym}
 use Rattle.rotating.proofs.Laws.{window-take}
-use Rattle.alleles.proofs.Allele.keep_front.Statement.{statement}
-use Rattle.alleles.proofs.Allele.keep_front.Tie as tie
+use Rattle.allele_parts.proofs.keep_front.Statement.{statement}
+use Rattle.allele_parts.proofs.keep_front.Tie as tie
 
 returns : tie.Need-returns
 returns c =
-    let a = c .args .self in
+    let a = c .args .allele in
     record {
       good = record { start = search needs; fits = search needs };
       head = refl;
