@@ -6,7 +6,6 @@ use Rattle.definition.proofs.Fixes.{Fixes}
 use Rattle.bases.proofs.complement.Reads as complement
 use Rattle.bases.proofs.all_bases.Reads as all-bases
 use Rattle.bases.proofs.revcomp.Reads as revcomp
-use Rattle.bases.proofs.same_bases.Reads as same-bases
 
 pub complement-one : Fixes (λ κs x at. x) complement.Post
 complement-one κs a x y atX atY p q = p ∙ sym q
@@ -20,6 +19,3 @@ revcomp-one-count κs a x y atX atY p q = p .0 ∙ sym (q .0)
 
 pub revcomp-one-buffer : Fixes (λ κs x at. now (at .1 .0)) revcomp.Post
 revcomp-one-buffer κs a x y atX atY p q = p .1 ∙ sym (q .1)
-
-pub same-bases-one : Fixes (λ κs x at. x) same-bases.Post
-same-bases-one κs a x y atX atY p q = p ∙ sym q

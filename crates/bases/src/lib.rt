@@ -1,9 +1,9 @@
-// Bases: which bytes are bases, the complement, the reverse complement, and whether two stretches are the same. Each contract says by equations with
-// the crate `definition` what comes back and what is written. No function reads outside its slice.
+// Bases: which bytes are bases, the complement and the reverse complement. Each contract says by equations with the crate `definition` what comes back
+// and what is written. No function reads outside its slice.
 ghost use mathlib.Core.Path.{_≡_};
 ghost use Prim.Native.Nat.{_≤_};
 ghost use lib.ListN.{length};
-ghost use Rattle.definition.specs.Bases.{isBase, allBases, complement, reverseComplement, sameBases};
+ghost use Rattle.definition.specs.Bases.{isBase, allBases, complement, reverseComplement};
 ghost use Rattle.definition.specs.Reply.{written};
 
 // A with T, C with G; any other byte is its own complement.
@@ -52,21 +52,4 @@ pub fn revcomp(part: &[u8], out: &mut [u8]) -> usize
         i += 1;
     }
     n
-}
-
-// Whether the two are the same, base for base. As in `all_bases` there is no early exit.
-pub fn same_bases(reference: &[u8], alternative: &[u8]) -> bool
-    ensures { λ r. ⌜ r ≡ sameBases (now (reference .entry)) (now (alternative .entry)) ⌝ }
-{
-    let n = reference.len();
-    if alternative.len() != n {
-        return false;
-    }
-    let mut same = true;
-    let mut i: usize = 0;
-    while i < n {
-        same = same & (reference[i] == alternative[i]);
-        i += 1;
-    }
-    same
 }

@@ -3,6 +3,7 @@ ghost use mathlib.Core.Path.{_≡_};
 ghost use Prim.Native.Nat.{_-_, _<_, _≤_};
 ghost use lib.ListN.{length};
 ghost use lib.Seq.{slice};
+ghost use Rattle.definition.specs.Bases.{sameBases};
 ghost use Rattle.definition.specs.Limits.{longestTarget, longestAllele};
 ghost use Rattle.definition.specs.Verdict.{answered, answerAtOnce};
 ghost use Rattle.definition.specs.Reply.{Met};
@@ -36,6 +37,23 @@ pub fn way_of(edit: Edit, target: &[u8], start: Zero, end: Zero, alternative: &[
     }
 }
 
+// Whether the two are the same, base for base. As in `bases::all_bases` there is no early exit.
+fn same_bases(reference: &[u8], alternative: &[u8]) -> bool
+    ensures { λ r. ⌜ r ≡ sameBases (now (reference .entry)) (now (alternative .entry)) ⌝ }
+{
+    let n = reference.len();
+    if alternative.len() != n {
+        return false;
+    }
+    let mut same = true;
+    let mut i: usize = 0;
+    while i < n {
+        same = same & (reference[i] == alternative[i]);
+        i += 1;
+    }
+    same
+}
+
 // The way of a replacement: by the same bases, of one base by one other, or another.
 fn substitution(target: &[u8], start: Zero, end: Zero, alternative: &[u8]) -> Way
     requires { ⌜ (start .0 < end .0) × (end .0 ≤ length (now target)) ⌝ }
@@ -44,7 +62,7 @@ fn substitution(target: &[u8], start: Zero, end: Zero, alternative: &[u8]) -> Wa
     let from = start.0;
     let to = end.0;
     let reference = &target[from..to];
-    if bases::same_bases(reference, alternative) {
+    if same_bases(reference, alternative) {
         return Way::Same;
     }
     if to - from != 1 {

@@ -1,4 +1,4 @@
--- `bases::same_bases` meets its contract. The invariant: the pairs so far and the rests decide together. Assumes nothing.
+-- `shortcuts::same_bases` meets its contract. The invariant: the pairs so far and the rests decide together. Assumes nothing.
 use Prim.Native.Nat.{_≤_, _-_}
 use mathlib.Core.Path.{_≡_, sym, refl}
 use mathlib.Core.Bool.{_&&_}
@@ -6,9 +6,9 @@ use native.Mathlib.Omega.{arith}
 use borrow.Author.Needs.{needs}
 use lib.ListN.{drop}
 use Rattle.definition.specs.Bases.{sameBases}
 use Rattle.bases.proofs.SameBases.{not-as-long, same-next, same-all}
-use Rattle.bases.proofs.same_bases.Statement.{statement}
-use Rattle.bases.proofs.same_bases.Tie as tie
+use Rattle.shortcuts.proofs.same_bases.Statement.{statement}
+use Rattle.shortcuts.proofs.same_bases.Tie as tie
 
 abbrev Inv-loop : tie.InvT-loop
 Inv-loop reference alternative n same₀ i₀ same i = (i ≤ n) × ((same && sameBases (drop i reference) (drop i alternative)) ≡ sameBases reference alternative)
