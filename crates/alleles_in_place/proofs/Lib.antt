@@ -3,5 +3,4 @@ pub mod Lent
 pub mod Raised
 pub mod Side
 pub mod One
-pub mod Two
 pub mod Unique

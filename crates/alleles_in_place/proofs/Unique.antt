@@ -1,5 +1,5 @@
--- Each public contract decides what can be seen: of any two results that it allows, the counts are equal, and so are the head, the count and
--- the bases of each buffer at exit. Not fixed are the bytes of the array outside the window.
+-- Each public contract decides what can be seen: of any two results that it allows, the head, the count and the bases of the buffer at exit are
+-- equal. Not fixed are the bytes of the array outside the window.
 -- Assumes nothing.
 use Prim.Native.Nat.{ℕ}
 use mathlib.Core.Path.{_≡_}
@@ -15,38 +15,26 @@ use contract.Monad.{Fun, fact}
 use denote.Triple.Entry.{Args, Res}
 use denote.Triple.Clauses.{Ended, Clauses, AtExit}
 use Rattle.alleles.specs.declared.Allele.{Allele}
-use Rattle.allele_trims.specs.declared.Trimmed.{Trimmed}
 use Rattle.alleles.specs.Held.{held}
 use Rattle.alleles.proofs.Unique.{Alike, holds-alike}
-use Rattle.allele_trims.proofs.Unique.{SameTrim, trimmed-front-same, trimmed-back-same}
-use Rattle.alleles_in_place.specs.Rests.{rests}
 use Rattle.alleles_in_place.proofs.Facts.{agree}
 use Rattle.alleles_in_place.proofs.push_back_in as push-back-in
 use Rattle.alleles_in_place.proofs.push_front_in as push-front-in
 use Rattle.alleles_in_place.proofs.keep_front_in as keep-front-in
 use Rattle.alleles_in_place.proofs.keep_back_in as keep-back-in
-use Rattle.alleles_in_place.proofs.trim_front_in as trim-front-in
-use Rattle.alleles_in_place.proofs.trim_back_in as trim-back-in
 
 -- what the clauses ensure of two results for the same arguments gives that the same is seen of both: `Fixes`, of a contract that is proved by hand
-abbrev Fixed : {M : Type 1} (𝓤 : URA M) (T : Ended) → Clauses 𝓤 T → {S : Type 0} → ((κs : Lfts (T .signature .lifetimes)) → Res (T .signature) κs → AtExit T κs → S) → Type 1
+abbrev pub Fixed : {M : Type 1} (𝓤 : URA M) (T : Ended) → Clauses 𝓤 T → {S : Type 0} → ((κs : Lfts (T .signature .lifetimes)) → Res (T .signature) κs → AtExit T κs → S) → Type 1
 Fixed 𝓤 T c seen =
     (κs : Lfts (T .signature .lifetimes)) (a : Args (T .signature) κs) (g : c κs a .ghost) (x y : Res (T .signature) κs) (atX atY : AtExit T κs)
     → ent 𝓤 (sep 𝓤 (c κs a .ensures g x atX) (c κs a .ensures g y atY)) (fact 𝓤 (seen κs x atX ≡ seen κs y atY))
 
 -- what can be seen of an allele
-abbrev seen : Allele → ℕ × ℕ × List ℕ
+abbrev pub seen : Allele → ℕ × ℕ × List ℕ
 seen allele = (allele .head, allele .count, held allele)
 
-alike-seen : {x y : Allele} → Alike x y → seen x ≡ seen y
+pub alike-seen : {x y : Allele} → Alike x y → seen x ≡ seen y
 alike-seen p = λ i. (p .head i, p .count i, p .bases i)
-
--- and of a trim's result
-abbrev trim-seen : Trimmed → ℕ × (ℕ × ℕ × List ℕ) × (ℕ × ℕ × List ℕ)
-trim-seen t = (t .count, seen (t .left), seen (t .right))
-
-same-seen : {t u : Trimmed} → SameTrim t u → trim-seen t ≡ trim-seen u
-same-seen p = λ i. (p .count i, alike-seen (p .left) i, alike-seen (p .right) i)
 
 module _ {M : Type 1} (𝓤 : URA M) (H : Heap 𝓤) (A : Atoms 𝓤) (mem : Memory → SProp 𝓤) (run : Routine → Fun 𝓤) where
   pub push-back-in-one : Fixed 𝓤 push-back-in.ended (push-back-in.clauses 𝓤 H A mem run) (λ κs x at. seen (at .0 .now))
@@ -60,9 +48,3 @@ module _ {M : Type 1} (𝓤 : URA M) (H : Heap 𝓤) (A : Atoms 𝓤) (mem : Mem
 
   pub keep-back-in-one : Fixed 𝓤 keep-back-in.ended (keep-back-in.clauses 𝓤 H A mem run) (λ κs x at. seen (at .0 .now))
   keep-back-in-one κs a g x y atX atY = agree 𝓤 _ _ _ (λ p q. alike-seen (holds-alike p q))
-
-  pub trim-front-in-one : Fixed 𝓤 trim-front-in.ended (trim-front-in.clauses 𝓤 H A mem run) (λ κs x at. trim-seen (rests x (at .0 .now) (at .1 .0 .now)))
-  trim-front-in-one κs a g x y atX atY = agree 𝓤 _ _ _ (λ p q. same-seen (trimmed-front-same p q))
-
-  pub trim-back-in-one : Fixed 𝓤 trim-back-in.ended (trim-back-in.clauses 𝓤 H A mem run) (λ κs x at. trim-seen (rests x (at .0 .now) (at .1 .0 .now)))
-  trim-back-in-one κs a g x y atX atY = agree 𝓤 _ _ _ (λ p q. same-seen (trimmed-back-same p q))

@@ -1,11 +1,9 @@
-// The thin forms of `alleles`, `allele_parts` and `allele_trims`: the buffer is lent and rotated in place. Each takes the allele out of the reference,
+// The thin forms of `alleles` and `allele_parts`: the buffer is lent and rotated in place. Each takes the allele out of the reference,
 // calls the by-value function of the same name and stores what comes back; it asks and ensures what that function does, of the buffer at entry and at exit.
 ghost use Prim.Native.Nat.{_+_, _-_, _%_, _≤_};
 ghost use mathlib.Core.List.{_++_};
 ghost use lib.ListN.{length, take, drop};
 ghost use Rattle.alleles.specs.Held.{held, Good, Holds};
-ghost use Rattle.allele_trims.specs.Trims.{TrimmedFront, TrimmedBack};
-ghost use Rattle.alleles_in_place.specs.Rests.{rests};
 use alleles::Allele;
 
 // The bases of a part go behind those of the allele.
@@ -41,26 +39,4 @@ pub fn keep_back_in(allele: &mut Allele, last: usize)
         last (drop (now (allele .entry) .count - last) (held (now (allele .entry)))) ⌝ }
 {
     *allele = allele_parts::keep_back(*allele, last);
-}
-
-// The bases that both alleles begin with come off, and how many they are comes back.
-pub fn trim_front_in(a: &mut Allele, b: &mut Allele) -> usize
-    requires { ⌜ Good (now a) × Good (now b) ⌝ }
-    ensures { λ n. ⌜ TrimmedFront (now (a .entry)) (now (b .entry)) (rests n (now (a .exit)) (now (b .exit))) ⌝ }
-{
-    let t = allele_trims::trim_front(*a, *b);
-    *a = t.left;
-    *b = t.right;
-    t.count
-}
-
-// The bases that both alleles end with come off, and how many they are comes back.
-pub fn trim_back_in(a: &mut Allele, b: &mut Allele) -> usize
-    requires { ⌜ Good (now a) × Good (now b) ⌝ }
-    ensures { λ n. ⌜ TrimmedBack (now (a .entry)) (now (b .entry)) (rests n (now (a .exit)) (now (b .exit))) ⌝ }
-{
-    let t = allele_trims::trim_back(*a, *b);
-    *a = t.left;
-    *b = t.right;
-    t.count
 }

@@ -42,10 +42,10 @@ use Rattle.alleles.proofs.Allele as T
 use Rattle.alleles.proofs.Allele.Laws as T′
 use Rattle.allele_trims.proofs.Trimmed as S
 use Rattle.allele_trims.proofs.Trimmed.Laws as S′
-use Rattle.alleles_in_place.specs.Rests.{rests}
+use Rattle.trims_in_place.specs.Rests.{rests}
 use Rattle.alleles_in_place.proofs.Raised.{Raised, raised}
 use Rattle.alleles_in_place.proofs.Lent.{mach, Own, IsOf, typed}
-use Rattle.alleles_in_place.proofs.Two.{machT, Parts, spelled}
+use Rattle.trims_in_place.proofs.Two.{machT, Parts, spelled}
 use Rattle.alleles_in_place_rows.proofs.Local.{lies, found}
 use Rattle.alleles_in_place_rows.proofs.One.{made, Ref}
 

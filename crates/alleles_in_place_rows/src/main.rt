@@ -12,9 +12,9 @@ use alleles_in_place::keep_back_in;
 use alleles_in_place::keep_front_in;
 use alleles_in_place::push_back_in;
 use alleles_in_place::push_front_in;
-use alleles_in_place::trim_back_in;
-use alleles_in_place::trim_front_in;
 use libc::STDOUT_FILENO;
+use trims_in_place::trim_back_in;
+use trims_in_place::trim_front_in;
 
 // A thin form called on an allele of the caller's own: the local is lent for the call, and given back by value.
 fn pushed_back(mut allele: Allele, part: &[u8]) -> Allele
