@@ -1,4 +1,4 @@
--- `exons::put_at` meets its contract: past the table's end nothing is set. Assumes nothing.
+-- `exon_lists::put_at` meets its contract: past the table's end nothing is set. Assumes nothing.
 use mathlib.Core.Path.{sym, _∙_}
 use native.Mathlib.Omega.{arith}
 use borrow.Author.Needs.{needs}

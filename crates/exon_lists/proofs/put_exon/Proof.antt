@@ -1,4 +1,4 @@
--- `exons::put_exon` meets its contract: each refusal is a pair without bytes or without room, and any other pair is put. Assumes nothing.
+-- `exon_lists::put_exon` meets its contract: each refusal is a pair without bytes or without room, and any other pair is put. Assumes nothing.
 use mathlib.Core.Path.{refl, sym, _∙_}
 use native.Mathlib.Omega.{arith}
 use borrow.Author.Needs.{needs}

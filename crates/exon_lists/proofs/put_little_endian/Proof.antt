@@ -1,4 +1,4 @@
--- `exons::put_little_endian` meets its contract: four bytes, one behind the other. Assumes nothing.
+-- `exon_lists::put_little_endian` meets its contract: four bytes, one behind the other. Assumes nothing.
 use borrow.Author.Needs.{needs}
 use Rattle.exon_lists.proofs.Pairs.{four-put}
 use Rattle.exon_lists.proofs.put_little_endian.Statement.{statement}

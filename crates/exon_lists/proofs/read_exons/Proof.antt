@@ -1,4 +1,4 @@
--- `exons::read_exons` meets its contract: each pair is put behind those before it. The measure is the bytes left. Assumes nothing.
+-- `exon_lists::read_exons` meets its contract: each pair is put behind those before it. The measure is the bytes left. Assumes nothing.
 use Prim.Native.Nat.{_+_, _-_}
 use native.Mathlib.Omega.{arith}
 use borrow.Author.Needs.{needs}
