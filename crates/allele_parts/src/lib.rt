@@ -1,5 +1,5 @@
-// Parts of an allele, by value: its first bases or its last alone, and its bases written out. What is done to its bytes stands in crate `rotating`; here are
-// the head and the count.
+// Parts of an allele, by value: its first bases or its last alone, and its bases written out. Its bytes are read in crate `rotating_out`; here are the head
+// and the count.
 ghost use Prim.Native.Nat.{_+_, _-_, _%_, _≤_};
 ghost use lib.ListN.{length, take, drop};
 ghost use Rattle.alleles.specs.Held.{held, Good, Holds};
@@ -35,6 +35,6 @@ pub fn write_out(allele: Allele, out: &mut [u8]) -> usize
 {
     let head = allele.head;
     let count = allele.count;
-    rotating::copy_out(&allele.bytes, head, count, out);
+    rotating_out::copy_out(&allele.bytes, head, count, out);
     count
 }

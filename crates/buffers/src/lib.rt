@@ -12,7 +12,7 @@ use classes::Anchor;
 use classes::Called;
 use definition::Answered;
 use definition::Outcome;
-use rotating::copy_out;
+use rotating_out::copy_out;
 
 // A part of the target is written out from byte 0; the bytes after it are unchanged.
 pub fn write_part(part: &[u8], out: &mut [u8])

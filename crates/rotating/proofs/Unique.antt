@@ -6,7 +6,7 @@ use mathlib.Core.List.{List}
 use lib.ListN.{length}
 use Rattle.rotating.specs.Window.{window, StoredFront}
 
--- `store_back` and `copy_out` ensure one equation with what is given, of a window or a list
+-- `store_back` ensures one equation with what is given, of a window
 pub equal : {A : Type 0} {result other given : A} → result ≡ given → other ≡ given → result ≡ other
 equal e f = e ∙ sym f
 

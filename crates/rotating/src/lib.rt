@@ -1,5 +1,5 @@
-// Bytes that are read and written round an array of 2,048, after whose last place comes the first: stored beside a window, and the
-// window written out. The array is lent: nothing here copies it.
+// Bytes that are written round an array of 2,048, after whose last place comes the first: a part is stored beside a window. The array is lent:
+// nothing here copies it.
 ghost use mathlib.Core.Path.{_≡_};
 ghost use mathlib.Core.List.{_++_};
 ghost use Prim.Native.Nat.{_+_, _≤_};
@@ -36,16 +36,4 @@ pub fn store_front(bytes: &mut [u8; 2048], head: usize, count: usize, part: &[u8
     let first = (head + 2048 - part.len()) % 2048;
     store(bytes, first, part);
     first
-}
-
-// The window is written out from byte 0; the bytes after it are unchanged.
-pub fn copy_out(bytes: &[u8; 2048], head: usize, count: usize, out: &mut [u8])
-    requires { ⌜ Placed head count × (count ≤ length (now out)) ⌝ }
-    ensures { λ _. ⌜ now (out .exit) ≡ written (window (now (bytes .entry)) head count) (now (out .entry)) ⌝ }
-{
-    let mut i: usize = 0;
-    while i < count {
-        out[i] = bytes[(head + i) % 2048];
-        i += 1;
-    }
 }

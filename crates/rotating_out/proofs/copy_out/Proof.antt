@@ -1,15 +1,15 @@
--- `rotating::copy_out` meets its contract. The invariant: the first i bytes of the window are laid.
+-- `rotating_out::copy_out` meets its contract. The invariant: the first i bytes of the window are laid.
 -- Assumes nothing.
 use borrow.Author.Needs.{needs}
 use native.Mathlib.Omega.{arith}
 use Prim.Native.Nat.{_-_, _≤_}
 use mathlib.Core.Path.{_≡_, refl, sym}
 use lib.ListN.{length, length-set}
 use Rattle.rotating.specs.Window.{window}
 use Rattle.rotating.proofs.Laws.{window-length, window-at}
 use Rattle.definition.proofs.Laid.{Laid, laid-more, laid-done}
-use Rattle.rotating.proofs.copy_out.Statement.{statement}
-use Rattle.rotating.proofs.copy_out.Tie as tie
+use Rattle.rotating_out.proofs.copy_out.Statement.{statement}
+use Rattle.rotating_out.proofs.copy_out.Tie as tie
 
 abbrev Inv-loop : tie.InvT-loop
 Inv-loop bytes head count out₀ i₀ out i = (i ≤ count) × (length out ≡ length out₀) × Laid (window bytes head count) out₀ out i
