@@ -16,7 +16,7 @@ use Rattle.alleles.specs.declared.Allele.{Allele}
 use Rattle.rotating.specs.Window.{window}
 use Rattle.alleles.specs.Held.{held}
 use Rattle.rotating.proofs.Laws.{window-length}
-use Rattle.windows_right.specs.declared.Stepped.{Stepped}
+use Rattle.counts.specs.declared.Stepped.{Stepped}
 use Rattle.windows_right.specs.Moves.{SteppedRight}
 use Rattle.windows_left.specs.Moves.{SteppedLeft}
 use Rattle.slides.specs.Slides.{Poised, Slid}

@@ -5,7 +5,7 @@ ghost use Prim.Native.Nat.{_+_, _-_, _%_, _≤_, min};
 ghost use lib.ListN.{length};
 ghost use Rattle.rotating.specs.Window.{window, Placed};
 ghost use Rattle.windows_left.specs.Moves.{WindowedLeft, SteppedLeft};
-use windows_right::Stepped;
+use counts::Stepped;
 
 // One window leftward: the chunk goes before both alleles, and the result is how many bases they then end with in common. The caller moves
 // both heads back by it and keeps both counts.

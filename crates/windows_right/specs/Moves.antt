@@ -6,7 +6,7 @@ use mathlib.Core.List.{List, _++_}
 use lib.ListN.{length, take, drop}
 use lib.Seq.{slice}
 use Rattle.definition.specs.Prefix.{lcp}
-use Rattle.windows_right.specs.declared.Stepped.{Stepped}
+use Rattle.counts.specs.declared.Stepped.{Stepped}
 
 -- the chunk goes behind both alleles, the n bases of the front that they then share come off, and so does what is left of the chunk
 pub record WindowedRight (r a chunk r′ a′ : List ℕ) (n : ℕ) : Type 0 where

@@ -5,12 +5,7 @@ ghost use Prim.Native.Nat.{_+_, _%_, _≤_, min};
 ghost use lib.ListN.{length};
 ghost use Rattle.rotating.specs.Window.{window, Placed};
 ghost use Rattle.windows_right.specs.Moves.{WindowedRight, SteppedRight};
-
-// One window of the move, in either direction: its size, and how many bases the change moved in it.
-pub struct Stepped {
-    pub size: usize,
-    pub moved: usize,
-}
+use counts::Stepped;
 
 // One window rightward: the chunk goes behind both alleles, of which one is empty, and the result is how many bases they then begin with
 // in common. The caller moves both heads on by it and keeps both counts: what was shared, and what is left of the chunk, is then gone.
