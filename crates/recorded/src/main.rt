@@ -42,9 +42,9 @@ fn say_unless(same: bool, words: &[u8]) {
 }
 
 fn agrees(compared: Compared) -> bool {
-    let numbers = compared.same_start && compared.same_end && compared.same_probes;
-    let alleles = compared.same_reference && compared.same_alternative;
-    compared.same_refusal && compared.same_class && numbers && alleles
+    let numbers = compared.same_start & compared.same_end & compared.same_probes;
+    let alleles = compared.same_reference & compared.same_alternative;
+    compared.same_refusal & compared.same_class & numbers & alleles
 }
 
 // The line of a record that differs: its number, from 1, and what differs.
@@ -68,7 +68,7 @@ fn replay(file: &[u8], at: usize, number: u32) -> Replayed
 {
     let request = records::request_at(file, at);
     let stored = records::stored_at(file, request.to);
-    if !(request.whole && stored.whole) {
+    if !(request.whole & stored.whole) {
         return Replayed {
             whole: false,
             agrees: false,
@@ -147,26 +147,29 @@ fn say_rest(size: usize, at: usize, replayed: u32, count: u32) {
     }
 }
 
-fn say_count(words: &[u8], count: u32) {
-    say(words);
+// The line of a class. Line N of the text is the name of class N.
+fn say_class(class: usize, count: u32) {
+    say(lines::line(
+        b"
+insertion
+duplication
+deletion
+replacement
+inversion
+unchanged",
+        class,
+    ));
+    say(b": ");
     say_number(count);
     say(b"\n");
 }
 
-fn say_totals(totals: Totals) {
-    say_number(totals.replayed);
-    say(b" records replayed, ");
-    say_number(totals.agreed);
-    say(b" agreed\n");
-    let classes = totals.classes;
-    say_count(b"insertion: ", classes[1]);
-    say_count(b"duplication: ", classes[2]);
-    say_count(b"deletion: ", classes[3]);
-    say_count(b"replacement: ", classes[4]);
-    say_count(b"inversion: ", classes[5]);
-    say_count(b"unchanged: ", classes[6]);
-    let refusals = totals.refusals;
-    say_refusals(&refusals);
+fn say_classes(classes: &[u32; 17]) {
+    let mut class: usize = 1;
+    while class < 7 {
+        say_class(class, classes[class]);
+        class += 1;
+    }
 }
 
 // The line of a refusal that was answered.
@@ -174,7 +177,9 @@ fn say_refusal(row: u32, count: u32) {
     if 0 < count {
         say(b"refusal ");
         say_number(row);
-        say_count(b": ", count);
+        say(b": ");
+        say_number(count);
+        say(b"\n");
     }
 }
 
@@ -184,6 +189,17 @@ fn say_refusals(refusals: &[u32; 17]) {
         say_refusal(row as u32, refusals[row]);
         row += 1;
     }
+}
+
+fn say_totals(totals: Totals) {
+    say_number(totals.replayed);
+    say(b" records replayed, ");
+    say_number(totals.agreed);
+    say(b" agreed\n");
+    let classes = totals.classes;
+    say_classes(&classes);
+    let refusals = totals.refusals;
+    say_refusals(&refusals);
 }
 
 // A file replayed, or the sentence why it is not.
