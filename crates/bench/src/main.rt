@@ -117,7 +117,12 @@ fn say_difference(answer: &[u8]) {
 }
 
 // Whether the answer to a row's words is the one expected; it is said where it is not.
-fn answers_as(asked: &[u8], expected: &[u8], reference_room: usize, alternative_room: usize) -> bool {
+fn answers_as(
+    asked: &[u8],
+    expected: &[u8],
+    reference_room: usize,
+    alternative_room: usize,
+) -> bool {
     let mut space = io::buffer();
     let answer: &mut [u8] = &mut space;
     let size = put_answer(answer, asked, reference_room, alternative_room);
@@ -174,7 +179,11 @@ fn run_line(so_far: Run, line: &[u8]) -> Run {
     let agreeing = so_far.agreeing;
     Run {
         all: raised(so_far.all),
-        agreeing: if run_row(line) { raised(agreeing) } else { agreeing },
+        agreeing: if run_row(line) {
+            raised(agreeing)
+        } else {
+            agreeing
+        },
     }
 }
 
