@@ -1,5 +1,7 @@
 // The bench: rows on standard input, each a request, the answer that it should get, and what the row shows. A row's answer that differs is printed
 // beside the expected one. The file `stdin` has every row of 01's bench, both sides of each limit, and a row for each fault that those rows let through.
+mod answers;
+
 ghost use mathlib.Core.Path.{_≡_};
 ghost use Prim.Native.Nat.{_+_, min, max};
 ghost use lib.ListN.{length};
@@ -25,14 +27,9 @@ fn put_reached(
     alternative: &mut [u8],
 ) -> usize {
     match asking::ask(words, File::Unreadable, b"", reference, alternative) {
-        Reached::Outcome(outcome) => answers::put_outcome(
-            answer,
-            0,
-            0,
-            outcome,
-            reference,
-            alternative,
-        ),
+        Reached::Outcome(outcome) => {
+            answers::put_outcome(answer, 0, outcome, reference, alternative)
+        }
         Reached::Problem(problem) => problems::put_problem(answer, 0, words, problem),
     }
 }

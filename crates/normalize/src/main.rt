@@ -1,5 +1,4 @@
-// The tool that a person runs: one change in, its normal form out. Without arguments it answers the requests of 01's bench.
-mod table;
+// The tool that a person runs: one change in, its normal form out. Without arguments it answers two examples.
 mod usage;
 
 ghost use mathlib.Core.Path.{_≡_};
@@ -154,6 +153,41 @@ fn put_reached(page: &mut [u8], used: usize, text: &[u8], file: File, bytes: &[u
     }
 }
 
+// A request as it is typed behind the tool's name, and what it reaches.
+fn put_example(page: &mut [u8], used: usize, typed: &[u8]) -> usize {
+    let mut space = [0u8; 256];
+    let words: &mut [u8] = &mut space;
+    let filled = runs::expand(typed, 0, words, 0);
+    let size = terminal::put_byte(words, filled, 0);
+    let named = terminal::put(page, used, b"\nnormalize ");
+    let asked = terminal::put(page, named, typed);
+    let begun = terminal::put_byte(page, asked, b'\n');
+    let reached = put_reached(
+        page,
+        begun,
+        text::part(words, 0, size),
+        File::Unreadable,
+        b"",
+    );
+    terminal::put_byte(page, reached, b'\n')
+}
+
+// One deletion in a run of equal bases, spelled at the run's first base and at its last.
+fn put_examples(page: &mut [u8]) -> usize {
+    let told = terminal::put(
+        page,
+        0,
+        b"One change has one key, its class, range and alleles, wherever it is spelled:\n",
+    );
+    let first = put_example(page, told, b"--target CAAATGGTACCA --edit del --range 1 2");
+    let last = put_example(page, first, b"--target CAAATGGTACCA --edit del --range 3 4");
+    terminal::put(
+        page,
+        last,
+        b"\nnormalize --help tells how to ask for a change of your own.\n",
+    )
+}
+
 // Room for the bytes of a file.
 fn file_room() -> [u8; 262144]
     ensures { λ r. ⌜ 262144 ≡ length r ⌝ }
@@ -161,10 +195,10 @@ fn file_room() -> [u8; 262144]
     [0; 262144]
 }
 
-// What is said to words: the table where there is none. A file that they name may have 262,144 bytes.
+// What is said to words: the examples where there is none. A file that they name may have 262,144 bytes.
 fn put_reply(page: &mut [u8], text: &[u8]) -> usize {
     if text.len() == 0 {
-        return table::put_table(page, 0);
+        return put_examples(page);
     }
     let mut space = file_room();
     let bytes: &mut [u8] = &mut space;

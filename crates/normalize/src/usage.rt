@@ -10,7 +10,7 @@ pub fn put_usage(page: &mut [u8], used: usize) -> usize
         used,
         b"normalize: the normal form of one change of a sequence.
 
-  normalize                 the bench of 01, as a table
+  normalize                 two examples
   normalize --help          this text
   normalize OPTION VALUE..  one change
 
@@ -34,11 +34,6 @@ Where it may move
 The answer is its class, its range counted from 1 with both ends in it, both alleles with - for an empty one, and the probes, which are
 the pairs of bases that were compared. Or it is a refusal: its number, its name, and what to change.
 
-Example: normalize --target CAAATGGTACCA --edit del --range 1 2
-class        3 deletion
-range        4,4
-reference    A
-alternative  -
-probes       3",
+Example: normalize --target CAAATGGTACCA --edit del --range 1 2",
     )
 }

@@ -1,14 +1,18 @@
--- Writing a field's runs out one after the other: what is put so far, and what the runs left come to. Assumes nothing.
+-- Writing a field's runs out one after the other: a run grows by a byte; what is put so far, and what the runs left come to. Assumes nothing.
 use Prim.Native.Nat.{ℕ, zero, suc, _+_, _≤_, _<_}
 use native.Mathlib.Numerals.{add-one}
 use native.Mathlib.Omega.{arith}
 use mathlib.Core.Path.{_≡_, refl, sym, ap, _∙_}
-use mathlib.Core.List.{List, [], _++_, append-assoc, append-nil}
-use lib.ListN.{length, drop, getD, replicate, drop-of-length-le}
+use mathlib.Core.List.{List, [], _∷_, _++_, append-assoc, append-nil}
+use lib.ListN.{length, drop, getD, replicate, replicate-append-replicate, drop-of-length-le}
 use lib.Seq.{drop-cons, drop-drop}
 use Rattle.terminal.specs.Page.{Put}
 use Rattle.runs.specs.Runs.{timesIn, markSize, separatedBy, runsOut, expanded}
 use Rattle.terminal.proofs.Pages.{none, then as and-then, same-text}
+
+pub run-more : (i byte : ℕ) {before bytes after : List ℕ} {used count end : ℕ}
+    → Put before used (replicate i byte) bytes count → Put bytes count (byte ∷ []) after end → Put before used (replicate (i + 1) byte) after end
+run-more i byte first second = same-text (replicate-append-replicate i 1 byte) (and-then first second)
 
 -- `out` is what the runs before i come to, and no more runs are left than `runs`
 pub record Expanding (separator : ℕ) (field text : List ℕ) (size : ℕ) (then : List ℕ) (end i : ℕ) : Type 0 where

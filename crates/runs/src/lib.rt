@@ -1,7 +1,7 @@
 // Runs in a field: A*50 is a run of fifty As.
 ghost use mathlib.Core.Path.{_≡_};
 ghost use Prim.Native.Nat.{_+_, _<_, _≤_};
-ghost use lib.ListN.{length, drop};
+ghost use lib.ListN.{length, drop, replicate};
 ghost use Rattle.decimals.specs.Decimal.{decimalOf};
 ghost use Rattle.terminal.specs.Page.{Put};
 ghost use Rattle.runs.specs.Runs.{orOnce, digitsIn, timesIn, markSize, separatedBy, expanded};
@@ -73,6 +73,19 @@ fn separated(byte: u8, separator: u8) -> u8
     if byte == b' ' { separator } else { byte }
 }
 
+// Puts so many of one byte at the end of a text of this size; the size then.
+fn put_run(text: &mut [u8], size: usize, byte: u8, times: usize) -> usize
+    ensures { λ r. ⌜ Put (now (text .entry)) size (replicate times byte) (now (text .exit)) r ⌝ }
+{
+    let mut filled = size;
+    let mut i = 0;
+    while i < times {
+        filled = terminal::put_byte(text, filled, byte);
+        i += 1;
+    }
+    filled
+}
+
 // Puts a field with its runs written out at the end of a text of this size; the size then.
 pub fn expand(field: &[u8], separator: u8, text: &mut [u8], size: usize) -> usize
     ensures { λ r. ⌜ Put (now (text .entry)) size (expanded separator (now (field .entry))) (now (text .exit)) r ⌝ }
@@ -81,7 +94,7 @@ pub fn expand(field: &[u8], separator: u8, text: &mut [u8], size: usize) -> usiz
     let mut i = 0;
     while i < field.len() {
         let byte = separated(field[i], separator);
-        filled = spaces::put_run(text, filled, byte, run_count(field, i) as usize);
+        filled = put_run(text, filled, byte, run_count(field, i) as usize);
         i = run_end(field, i);
     }
     filled

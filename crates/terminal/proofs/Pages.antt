@@ -1,16 +1,14 @@
--- The laws of a page: a text put after another is the two put as one; what fits stands behind what was there; a full page stays as it is; what
--- does not fit fills it. Assumes nothing.
+-- The laws of a page: a text put after another is the two put as one; what fits stands behind what was there. Assumes nothing.
 use Prim.Native.Nat.{ℕ, suc, _+_, _<_, _≤_}
 use mathlib.Core.Path.{_≡_, refl, sym, ap, _∙_}
 use mathlib.Core.List.{List, [], _∷_, _++_}
 use native.Mathlib.Numerals.{add-one}
-use native.Mathlib.Nat.{add-zero, lt-of-not-le}
-use native.Mathlib.Decide.{decLe}
+use native.Mathlib.Nat.{add-zero}
 use native.Mathlib.Omega.{arith}
 use lib.ListN.{length, length-set, set, take, getD, drop, drop-of-length-le}
-use borrow.Author.Tests.{lt-ltb, le-ltb}
+use borrow.Author.Tests.{lt-ltb}
 use lib.Seq.{drop-cons, sets, sets-eq}
-use Rattle.terminal.specs.Page.{Page, page, withByte, withText, Put, Added}
+use Rattle.terminal.specs.Page.{Page, page, withByte, withText, Put}
 
 pub joined : (p : Page) (s t : List ℕ) → withText (withText p s) t ≡ withText p (s ++ t)
 unfolding withText
@@ -21,13 +19,6 @@ pub then : {before middle after s t : List ℕ} {used count end : ℕ}
     → Put before used s middle count → Put middle count t after end → Put before used (s ++ t) after end
 then {s} {t} first second =
     record { held = second .held ∙ ap (λ (p : Page). withText p t) (first .held) ∙ joined _ s t }
-
-pub adds : {before text after : List ℕ} {used count : ℕ} → Put before used text after count → Added before used after count
-adds {text} put = record { text = text; put = put }
-
-pub adds-more : {before middle after : List ℕ} {used count end : ℕ}
-    → Added before used middle count → Added middle count after end → Added before used after end
-adds-more first second = adds (then (first .put) (second .put))
 
 -- what is left of a text to put, on a page as it is, is the text put on the page as it was
 pub record Left (before : List ℕ) (used : ℕ) (text bytes : List ℕ) (count i : ℕ) : Type 0 where
@@ -57,12 +48,6 @@ none = record { held = refl }
 pub same-text : {before s t after : List ℕ} {used count : ℕ} → s ≡ t → Put before used s after count → Put before used t after count
 same-text e put = rw (← e) put
 
--- a page that is full stays as it is
-pub full-stays : (p : Page) (text : List ℕ) → length (p .bytes) ≤ p .used → withText p text ≡ p
-unfolding withText
-full-stays p [] full = refl
-full-stays p (byte ∷ text) full = rw (le-ltb (p .used) (length (p .bytes)) full) (full-stays p text full)
-
 pub stored : (text bytes : List ℕ) (used : ℕ) → used + length text ≤ length bytes
     → withText (page bytes used) text ≡ page (sets bytes used text) (used + length text)
 unfolding withText
@@ -82,16 +67,3 @@ pub appended : (text bytes : List ℕ) (used : ℕ) → used + length text ≤ l
     → withText (page bytes used) text ≡ page (take used bytes ++ text ++ drop (used + length text) bytes) (used + length text)
 appended text bytes used fits =
     stored text bytes used fits ∙ ap (λ (l : List ℕ). page l (used + length text)) (sets-eq text bytes used fits)
-
--- a text that has as many bytes as are left, or more, fills the page
-less-left : (p : Page) (byte n : ℕ) → Dec (length (p .bytes) ≤ p .used) → length (p .bytes) ≤ p .used + suc n
-    → length (withByte p byte .bytes) ≤ withByte p byte .used + n
-less-left p byte n (yes full) h = rw (le-ltb (p .used) (length (p .bytes)) full) (omega arith)
-less-left p byte n (no room) h =
-    rw (lt-ltb (p .used) (length (p .bytes)) (lt-of-not-le room), length-set (p .bytes) (p .used) byte) (omega arith)
-
-pub filled : (text : List ℕ) (p : Page) → length (p .bytes) ≤ p .used + length text → length (withText p text .bytes) ≤ withText p text .used
-unfolding withText
-filled [] p h = omega arith
-filled (byte ∷ text) p h =
-    filled text (withByte p byte) (less-left p byte (length text) (decLe (length (p .bytes)) (p .used)) h)

@@ -27,8 +27,3 @@ withText p (byte ∷ text) = withText (withByte p byte) text
 -- what each function that puts a text ensures of the page that it leaves and of the count that it gives back
 pub record Put (before : List ℕ) (used : ℕ) (text after : List ℕ) (count : ℕ) : Type 0 where
   pub held : page after count ≡ withText (page before used) text
-
--- some text is put
-pub record Added (before : List ℕ) (used : ℕ) (after : List ℕ) (count : ℕ) : Type 0 where
-  pub text : List ℕ
-  pub put : Put before used text after count

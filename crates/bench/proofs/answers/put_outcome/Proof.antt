@@ -1,7 +1,7 @@
--- `answers::put_outcome` meets its contract: each arm is a case of the definition. Assumes nothing.
+-- `bench::answers::put_outcome` meets its contract: each arm is a case of the definition. Assumes nothing.
 use borrow.Author.Needs.{needs}
-use Rattle.answers.proofs.put_outcome.Statement.{statement}
-use Rattle.answers.proofs.put_outcome.Tie as tie
+use Rattle.bench.proofs.answers.put_outcome.Statement.{statement}
+use Rattle.bench.proofs.answers.put_outcome.Tie as tie
 
 enum-known-outcome : tie.Need-enum-known-outcome
 enum-known-outcome c = search needs

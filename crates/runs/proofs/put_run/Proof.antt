@@ -1,4 +1,4 @@
--- `spaces::put_run` meets its contract. The invariant: as many of the byte as there were turns are on the page. The measure is the turns left.
+-- `runs::put_run` meets its contract. The invariant: as many of the byte as there were turns are put. The measure is the turns left.
 -- Assumes nothing.
 use mathlib.Core.Path.{_≡_}
 use Prim.Native.Nat.{_≤_, _-_}
@@ -7,15 +7,15 @@ use borrow.Author.Needs.{needs}
 use lib.ListN.{length, replicate}
 use Rattle.terminal.specs.Page.{Put}
 use Rattle.terminal.proofs.Pages.{none}
-use Rattle.spaces.proofs.Spaces.{run-more}
-use Rattle.spaces.proofs.put_run.Statement.{statement}
-use Rattle.spaces.proofs.put_run.Tie as tie
+use Rattle.runs.proofs.Expanding.{run-more}
+use Rattle.runs.proofs.put_run.Statement.{statement}
+use Rattle.runs.proofs.put_run.Tie as tie
 
 abbrev Inv-loop : tie.InvT-loop
-Inv-loop page₀ used byte size count₀ i₀ page count i = (i ≤ size) × (length page ≡ length page₀) × Put page₀ used (replicate i byte) page count
+Inv-loop text₀ size byte times filled₀ i₀ text filled i = (i ≤ times) × (length text ≡ length text₀) × Put text₀ size (replicate i byte) text filled
 
 abbrev μ-loop : tie.MeasureT-loop
-μ-loop page₀ used byte size count₀ i₀ page count i = size - i
+μ-loop text₀ size byte times filled₀ i₀ text filled i = times - i
 
 loop-holds : tie.Need-loop-holds Inv-loop μ-loop
 loop-holds c = (search needs, search needs, none)
@@ -39,7 +39,7 @@ same-length c = search needs
 
 returns : tie.Need-returns Inv-loop μ-loop
 returns c =
-    let all : c .before .loop .i ≡ c .before .before .before .args .size = omega arith in
+    let all : c .before .loop .i ≡ c .before .before .before .args .times = omega arith in
     rw all at (c .before .loop .inv .2)
 
 pub put-run-spec : {M : Type 1} → statement M

@@ -1,0 +1,47 @@
+-- `bench::answers::put_answer` meets its contract: the six puts are one. Assumes nothing.
+use Rattle.terminal.proofs.Pages.{then}
+use borrow.Author.Needs.{needs}
+use Rattle.bench.proofs.answers.put_answer.Statement.{statement}
+use Rattle.bench.proofs.answers.put_answer.Tie as tie
+
+put-class-requires : tie.Need-put-class-requires
+put-class-requires c κs = search needs
+
+put-byte-requires : tie.Need-put-byte-requires
+put-byte-requires c κs = search needs
+
+put-range-requires : tie.Need-put-range-requires
+put-range-requires c κs = search needs
+
+put-alleles-requires : tie.Need-put-alleles-requires
+put-alleles-requires c κs = search needs
+
+put-byte-requires-2 : tie.Need-put-byte-requires-2
+put-byte-requires-2 c κs = search needs
+
+put-number-requires : tie.Need-put-number-requires
+put-number-requires c κs = search needs
+
+same-length : tie.Need-same-length
+same-length c = search needs
+
+returns : tie.Need-returns
+returns c =
+    then
+    (then
+    (then (c .before .before .before .before .before .before .before .before .before .before .before .before .before .before .before .before .before .before .before .before .before .before .put-class .ensures) (then (c .before .before .before .before .before .before .before .before .before .before .before .before .before .before .before .before .before .before .put-byte .ensures) (c .before .before .before .before .before .before .before .before .before .before .before .before .before .before .put-range .ensures)))
+    (c .before .before .before .before .before .before .before .before .before .before .put-alleles .ensures))
+    (then (c .before .before .before .before .before .before .put-byte2 .ensures) (c .before .before .put-number .ensures))
+
+pub put-answer-spec : {M : Type 1} → statement M
+put-answer-spec =
+    tie.close
+    (tie.spec
+    put-class-requires
+    put-byte-requires
+    put-range-requires
+    put-alleles-requires
+    put-byte-requires-2
+    put-number-requires
+    same-length
+    returns)
