@@ -7,7 +7,7 @@ use mir.ValLaws.{toZ-ofZ}
 use Rattle.definition.specs.Verdict.{verdict}
 use Rattle.definition.proofs.Numbers.{reply-fits}
 use Rattle.normalizer.specs.Asked.{asked}
-use Rattle.sundrimel.proofs.Entry.{small-outcome, replied}
+use Rattle.replies.proofs.Replied.{small-outcome, replied}
 use borrow.Author.Needs.{needs}
 use Rattle.sundrimel.proofs.sundrimel_normalize.Statement.{statement}
 use Rattle.sundrimel.proofs.sundrimel_normalize.Tie as tie

@@ -6,8 +6,8 @@ use Rattle.definition.specs.declared.Outcome.{Outcome}
 use Rattle.definition.specs.Verdict.{Verdict, refused, answered}
 use Rattle.definition.specs.Reply.{reply, written, outcomeOf, referenceOut, alternativeOut, Met}
 use Rattle.definition.proofs.Numbers.{Fits32}
-use Rattle.sundrimel.specs.declared.Answer.{Answer}
-use Rattle.sundrimel.specs.Entry.{Small, answerOf, Replied}
+use Rattle.replies.specs.declared.Answer.{Answer}
+use Rattle.replies.specs.Replied.{Small, answerOf, Replied}
 
 module _ (v : Verdict) (reference alternative : List ℕ) where
   pub small-outcome : Fits32 (reply reference alternative v) → Small (outcomeOf v)

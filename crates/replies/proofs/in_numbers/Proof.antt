@@ -1,9 +1,10 @@
--- `sundrimel::in_numbers` meets its contract: a refusal is its number and zeros, an answer its numbers, each of which fits. Assumes nothing.
+-- `replies::in_numbers` meets its contract: a refusal is its number and zeros, an answer its numbers, each of which fits. Assumes nothing.
+use mathlib.Core.Path.{refl}
 use native.Mathlib.Omega.{arith}
-use Rattle.sundrimel.specs.Entry.{Small32, answerOf}
+use Rattle.replies.specs.Replied.{Small32, answerOf}
 use borrow.Author.Needs.{needs}
-use Rattle.sundrimel.proofs.in_numbers.Statement.{statement}
-use Rattle.sundrimel.proofs.in_numbers.Tie as tie
+use Rattle.replies.proofs.in_numbers.Statement.{statement}
+use Rattle.replies.proofs.in_numbers.Tie as tie
 
 enum-known-outcome : tie.Need-enum-known-outcome
 enum-known-outcome c = search needs
@@ -44,11 +45,11 @@ cast-t12 c =
 
 returns : tie.Need-returns
 unfolding answerOf
-returns c = rw (c .before .before .outcome .given .1, c .refusal-number .ensures)
+returns c = rw (c .before .before .outcome .given .1, c .refusal-number .ensures) refl
 
 returns-2 : tie.Need-returns-2
 unfolding answerOf
-returns-2 c = rw (c .before .before .before .before .before .before .before .outcome2 .given .1, c .before .before .before .before .before .class-number .ensures)
+returns-2 c = rw (c .before .before .before .before .before .before .before .outcome2 .given .1, c .before .before .before .before .before .class-number .ensures) refl
 
 pub in-numbers-spec : {M : Type 1} → statement M
 in-numbers-spec =

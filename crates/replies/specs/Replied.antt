@@ -1,4 +1,4 @@
--- The numbers that the exported entry gives back. Assumes nothing.
+-- A reply in numbers: an outcome's, and the definition's reply told by them and by both buffers. Assumes nothing.
 use mathlib.Core.Path.{_≡_}
 use mathlib.Core.List.{List}
 use Prim.Native.Nat.{ℕ, _<_}
@@ -7,7 +7,7 @@ use Rattle.definition.specs.declared.Outcome.{Outcome}
 use Rattle.definition.specs.declared.Outcome.the-variants as outcome
 use Rattle.definition.specs.Answer.{classNumber}
 use Rattle.definition.specs.Reply.{Reply, refusalNumber}
-use Rattle.sundrimel.specs.declared.Answer.{Answer}
+use Rattle.replies.specs.declared.Answer.{Answer}
 
 -- every number of an answer fits 32 bits
 pub record Small32 (a : Answered) : Type 0 where

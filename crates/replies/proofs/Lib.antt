@@ -1,0 +1,3 @@
+-- What the proofs share. Assumes nothing.
+pub mod Replied
+pub mod Unique

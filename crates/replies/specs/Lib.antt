@@ -1,0 +1,2 @@
+-- What the contracts of `src/` cite. Assumes nothing.
+pub mod Replied
