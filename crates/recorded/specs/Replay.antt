@@ -76,16 +76,15 @@ replyOf numbers referenceBuffer alternativeBuffer = record {
   alternativeBuffer = alternativeBuffer;
 }
 
--- the refusal and the class of a reply, and for each thing stored whether the reply has the same
+-- the refusal and the class of a reply, and whether both, its range, its probes and both its alleles are the stored ones
 abbrev pub comparedWith : List ℕ → Stored → Reply → Compared
 comparedWith file stored reply = record {
   refusal = reply .refusal;
   class = reply .class;
-  «same_refusal» = eqb (reply .refusal) (stored .refusal);
-  «same_class» = eqb (reply .class) (stored .class);
-  «same_start» = eqb (reply .start) (stored .start);
-  «same_end» = eqb (reply .end) (stored .end);
+  «same_verdict» = eqb (reply .refusal) (stored .refusal) && eqb (reply .class) (stored .class);
+  «same_range» = eqb (reply .start) (stored .start) && eqb (reply .end) (stored .end);
   «same_probes» = eqb (reply .probes) (stored .probes);
-  «same_reference» = holdsAllele (reply .referenceBuffer) (reply .referenceSize) (partIn file (stored .reference));
-  «same_alternative» = holdsAllele (reply .alternativeBuffer) (reply .alternativeSize) (partIn file (stored .alternative));
+  «same_alleles» =
+      holdsAllele (reply .referenceBuffer) (reply .referenceSize) (partIn file (stored .reference))
+      && holdsAllele (reply .alternativeBuffer) (reply .alternativeSize) (partIn file (stored .alternative));
 }

@@ -42,9 +42,7 @@ fn say_unless(same: bool, words: &[u8]) {
 }
 
 fn agrees(compared: Compared) -> bool {
-    let numbers = compared.same_start & compared.same_end & compared.same_probes;
-    let alleles = compared.same_reference & compared.same_alternative;
-    compared.same_refusal & compared.same_class & numbers & alleles
+    compared.same_verdict & compared.same_range & compared.same_probes & compared.same_alleles
 }
 
 // The line of a record that differs: its number, from 1, and what differs.
@@ -52,13 +50,10 @@ fn say_difference(number: u32, compared: Compared) {
     say(b"record ");
     say_number(number);
     say(b" differs:");
-    say_unless(compared.same_refusal, b" refusal");
-    say_unless(compared.same_class, b" class");
-    say_unless(compared.same_start, b" start");
-    say_unless(compared.same_end, b" end");
+    say_unless(compared.same_verdict, b" class or refusal");
+    say_unless(compared.same_range, b" range");
     say_unless(compared.same_probes, b" probes");
-    say_unless(compared.same_reference, b" reference");
-    say_unless(compared.same_alternative, b" alternative");
+    say_unless(compared.same_alleles, b" alleles");
     say(b"\n");
 }
 

@@ -25,17 +25,14 @@ pub struct ReplyNumbers {
     pub alternative_size: usize,
 }
 
-// The refusal and the class that were answered, and for each thing compared whether it is the stored one.
+// The refusal and the class that were answered, and whether both, the range, the probes and both alleles are the stored ones.
 pub struct Compared {
     pub refusal: u32,
     pub class: u32,
-    pub same_refusal: bool,
-    pub same_class: bool,
-    pub same_start: bool,
-    pub same_end: bool,
+    pub same_verdict: bool,
+    pub same_range: bool,
     pub same_probes: bool,
-    pub same_reference: bool,
-    pub same_alternative: bool,
+    pub same_alleles: bool,
 }
 
 // The bytes of a part: none where it does not lie in the file.
@@ -123,13 +120,11 @@ fn compare(
     Compared {
         refusal: reply.refusal,
         class: reply.class,
-        same_refusal: reply.refusal == stored.refusal,
-        same_class: reply.class == stored.class,
-        same_start: reply.start == stored.start as usize,
-        same_end: reply.end == stored.end as usize,
+        same_verdict: (reply.refusal == stored.refusal) & (reply.class == stored.class),
+        same_range: (reply.start == stored.start as usize) & (reply.end == stored.end as usize),
         same_probes: reply.probes == stored.probes as usize,
-        same_reference: holds_allele(reference_out, reply.reference_size, reference),
-        same_alternative: holds_allele(alternative_out, reply.alternative_size, alternative),
+        same_alleles: holds_allele(reference_out, reply.reference_size, reference)
+            & holds_allele(alternative_out, reply.alternative_size, alternative),
     }
 }
 

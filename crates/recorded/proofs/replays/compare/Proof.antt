@@ -9,14 +9,14 @@ bytes-of-requires c κs = search needs
 bytes-of-requires-2 : tie.Need-bytes-of-requires-2
 bytes-of-requires-2 c κs = search needs
 
-cast-t10 : tie.Need-cast-t10
-cast-t10 c = search needs
+cast-t11 : tie.Need-cast-t11
+cast-t11 c = search needs
 
-cast-t12 : tie.Need-cast-t12
-cast-t12 c = search needs
+cast-t13 : tie.Need-cast-t13
+cast-t13 c = search needs
 
-cast-t14 : tie.Need-cast-t14
-cast-t14 c = search needs
+cast-t16 : tie.Need-cast-t16
+cast-t16 c = search needs
 
 holds-allele-requires : tie.Need-holds-allele-requires
 holds-allele-requires c κs = search needs
@@ -34,9 +34,9 @@ compare-spec =
     (tie.spec
     bytes-of-requires
     bytes-of-requires-2
-    cast-t10
-    cast-t12
-    cast-t14
+    cast-t11
+    cast-t13
+    cast-t16
     holds-allele-requires
     holds-allele-requires-2
     returns)
