@@ -94,6 +94,7 @@ fn signed_long(low: u32, high: u32) -> i64
 
 // The part whose length stands at a place.
 fn part_at(file: &[u8], at: usize) -> Part
+    requires { ⌜ length (now file) ≤ 524288 ⌝ }
     ensures { λ r. ⌜ r ≡ partAt (now (file .entry)) at ⌝ }
     ensures { λ r. ⌜ r .to ≤ length (now (file .entry)) ⌝ }
 {
@@ -102,21 +103,18 @@ fn part_at(file: &[u8], at: usize) -> Part
         from: 0,
         to: 0,
     };
-    if file.len() < 4 {
-        return cut;
-    }
-    if file.len() - 4 < at {
+    if file.len() < at {
         return cut;
     }
     let from = at + 4;
-    let size = number(file, at) as usize;
-    if file.len() - from < size {
+    let to = from + number(file, at) as usize;
+    if file.len() < to {
         return cut;
     }
     Part {
         whole: true,
         from: from,
-        to: from + size,
+        to: to,
     }
 }
 

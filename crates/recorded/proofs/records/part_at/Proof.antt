@@ -15,56 +15,32 @@ returns c =
     let file = args .file .now in
     (rw (lt-leb (args .at + 4 + storedNumber file (args .at)) (length file) (omega arith)), omega arith)
 
-sub-if2 : tie.Need-sub-if2
-sub-if2 c = search needs
-
-returns-2 : tie.Need-returns-2
-unfolding partAt
-returns-2 c =
-    let args = c .before .before .before .args in
-    let file = args .file .now in
-    (rw (lt-leb (args .at + 4 + storedNumber file (args .at)) (length file) (omega arith)), omega arith)
-
 add-from : tie.Need-add-from
 add-from c = search needs
 
 number-requires : tie.Need-number-requires
 number-requires c κs = search needs
 
-cast-size : tie.Need-cast-size
-cast-size c = search needs
+cast-to : tie.Need-cast-to
+cast-to c = search needs
 
-sub-if3 : tie.Need-sub-if3
-sub-if3 c = search needs
+add-to : tie.Need-add-to
+add-to c = search needs
+
+returns-2 : tie.Need-returns-2
+unfolding partAt
+returns-2 c =
+    let args = c .before .before .before .before .args in
+    let file = args .file .now in
+    (rw (lt-leb (args .at + 4 + storedNumber file (args .at)) (length file) (omega arith)), omega arith)
 
 returns-3 : tie.Need-returns-3
 unfolding partAt
 returns-3 c =
-    let args = c .before .before .before .before .before .args in
-    let file = args .file .now in
-    (rw (lt-leb (args .at + 4 + storedNumber file (args .at)) (length file) (omega arith)), omega arith)
-
-add-t6 : tie.Need-add-t6
-add-t6 c = search needs
-
-returns-4 : tie.Need-returns-4
-unfolding partAt
-returns-4 c =
-    let args = c .before .before .before .before .before .args in
+    let args = c .before .before .before .before .args in
     let file = args .file .now in
     (rw (c .before .number .ensures, le-leb (args .at + 4 + storedNumber file (args .at)) (length file) (omega arith)), omega arith)
 
 pub part-at-spec : {M : Type 1} → statement M
 part-at-spec =
-    tie.close
-    (tie.spec
-    returns
-    sub-if2
-    returns-2
-    add-from
-    number-requires
-    cast-size
-    sub-if3
-    returns-3
-    add-t6
-    returns-4)
+    tie.close (tie.spec returns add-from number-requires cast-to add-to returns-2 returns-3)
