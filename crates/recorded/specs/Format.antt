@@ -20,12 +20,12 @@ unfoldable pub storedNumber : List ℕ → ℕ → ℕ
 storedNumber file at =
     cond (leb (at + 4) (length file)) (numberAt file at) 0
 
--- 32 bits, and the halves of 64, as a number with a sign
-abbrev pub signedOf : ℕ → ℤ
-signedOf bits = toZ w32 bits
+-- the number with a sign at a place, of 32 bits and of 64
+unfoldable pub signedAt : List ℕ → ℕ → ℤ
+signedAt file at = toZ w32 (storedNumber file at)
 
-abbrev pub signedLongOf : ℕ → ℕ → ℤ
-signedLongOf low high = toZ w64 (low + high * 4294967296)
+unfoldable pub signedLongAt : List ℕ → ℕ → ℤ
+signedLongAt file at = toZ w64 (storedNumber file at + storedNumber file (at + 4) * 4294967296)
 
 abbrev pub pickPart : Bool → Part → Part → Part
 pickPart true a b = a
@@ -42,10 +42,10 @@ partAt file at =
 abbrev pub numbersAt : List ℕ → ℕ → ℕ → ℕ → Numbers
 numbersAt file target exons alternative = record {
   kind = storedNumber file target;
-  «cds_start» = signedLongOf (storedNumber file exons) (storedNumber file (exons + 4));
-  «cds_end» = signedLongOf (storedNumber file (exons + 8)) (storedNumber file (exons + 12));
-  start = signedOf (storedNumber file (exons + 16));
-  end = signedOf (storedNumber file (exons + 20));
+  «cds_start» = signedLongAt file exons;
+  «cds_end» = signedLongAt file (exons + 8);
+  start = signedAt file (exons + 16);
+  end = signedAt file (exons + 20);
   edit = storedNumber file (exons + 24);
   direction = storedNumber file alternative;
   window = storedNumber file (alternative + 4);

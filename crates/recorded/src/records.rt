@@ -3,7 +3,7 @@
 ghost use mathlib.Core.Path.{_≡_};
 ghost use Prim.Native.Nat.{_≤_};
 ghost use lib.ListN.{length};
-ghost use Rattle.recorded.specs.Format.{storedNumber, signedOf, signedLongOf, partAt, numbersAt, requestAt, storedAt};
+ghost use Rattle.recorded.specs.Format.{storedNumber, signedAt, signedLongAt, partAt, numbersAt, requestAt, storedAt};
 
 // The most bytes that a file may have.
 pub const MOST: usize = 524288;
@@ -71,21 +71,23 @@ pub fn number(file: &[u8], at: usize) -> u32
     low + high * 65536
 }
 
-// Four bytes as a number with a sign.
-fn signed(bits: u32) -> i32
-    ensures { λ r. ⌜ r ≡ signedOf bits ⌝ }
+// The number that four bytes spell, with a sign.
+fn signed_at(file: &[u8], at: usize) -> i32
+    ensures { λ r. ⌜ r ≡ signedAt (now (file .entry)) at ⌝ }
 {
+    let bits = number(file, at);
     if bits < 2147483648 {
         return bits as i32;
     }
     !((4294967295 - bits) as i32)
 }
 
-// Eight bytes as a number with a sign, from their halves.
-fn signed_long(low: u32, high: u32) -> i64
-    ensures { λ r. ⌜ r ≡ signedLongOf low high ⌝ }
+// The number that eight bytes spell, with a sign.
+fn signed_long_at(file: &[u8], at: usize) -> i64
+    requires { ⌜ at ≤ 524296 ⌝ }
+    ensures { λ r. ⌜ r ≡ signedLongAt (now (file .entry)) at ⌝ }
 {
-    let bits = low as u64 + high as u64 * 4294967296;
+    let bits = number(file, at) as u64 + number(file, at + 4) as u64 * 4294967296;
     if bits < 9223372036854775808 {
         return bits as i64;
     }
@@ -126,10 +128,10 @@ fn numbers_at(file: &[u8], target_to: usize, exons_to: usize, alternative_to: us
     let at = exons_to;
     Numbers {
         kind: number(file, target_to),
-        cds_start: signed_long(number(file, at), number(file, at + 4)),
-        cds_end: signed_long(number(file, at + 8), number(file, at + 12)),
-        start: signed(number(file, at + 16)),
-        end: signed(number(file, at + 20)),
+        cds_start: signed_long_at(file, at),
+        cds_end: signed_long_at(file, at + 8),
+        start: signed_at(file, at + 16),
+        end: signed_at(file, at + 20),
         edit: number(file, at + 24),
         direction: number(file, alternative_to),
         window: number(file, alternative_to + 4),
