@@ -5,12 +5,13 @@ use mathlib.Core.List.{List}
 use Rattle.definition.specs.declared.Outcome.{Outcome}
 use Rattle.definition.specs.Verdict.{Verdict, refused, answered}
 use Rattle.definition.specs.Reply.{reply, written, outcomeOf, referenceOut, alternativeOut, Met}
-use Rattle.recorded.specs.declared.replays.ReplyNumbers.{ReplyNumbers}
-use Rattle.recorded.specs.Replay.{numbersOf, replyOf}
+use Rattle.replies.specs.declared.Answer.{Answer}
+use Rattle.replies.specs.Replied.{answerOf}
+use Rattle.recorded.specs.Replay.{replyOf}
 
-module _ {reference reference′ alternative alternative′ : List ℕ} {o : Outcome} {numbers : ReplyNumbers} (are : numbers ≡ numbersOf o) where
+module _ {reference reference′ alternative alternative′ : List ℕ} {o : Outcome} {numbers : Answer} (are : numbers ≡ answerOf o) where
   pub replied : (v : Verdict) → Met v o reference reference′ alternative alternative′
       → replyOf numbers reference′ alternative′ ≡ reply reference alternative v
-  unfolding reply outcomeOf referenceOut alternativeOut written numbersOf
+  unfolding reply outcomeOf referenceOut alternativeOut written answerOf
   replied (refused x) m = rw (are, m .numbers, m .referenceBuffer, m .alternativeBuffer)
   replied (answered a) m = rw (are, m .numbers, m .referenceBuffer, m .alternativeBuffer)

@@ -4,20 +4,17 @@ use mathlib.Core.Bool.{Bool, _&&_}
 use mathlib.Core.List.{List}
 use lib.Dec.{eqb}
 use lib.ListN.{length, replicate}
-use Rattle.definition.specs.declared.Outcome.{Outcome}
-use Rattle.definition.specs.declared.Outcome.the-variants as outcome
-use Rattle.definition.specs.Answer.{classNumber}
 use Rattle.definition.specs.Bases.{sameBases}
 use Rattle.definition.specs.Limits.{answerRoom}
 use Rattle.definition.specs.Request as definition
 use Rattle.definition.specs.Verdict.{verdict}
-use Rattle.definition.specs.Reply.{Reply, reply, refusalNumber, written}
+use Rattle.definition.specs.Reply.{Reply, reply, written}
 use Rattle.normalizer.specs.Asked.{asked}
+use Rattle.replies.specs.declared.Answer.{Answer}
 use Rattle.text.specs.Text.{partOf}
 use Rattle.recorded.specs.declared.replays.Compared.{Compared}
 use Rattle.recorded.specs.declared.records.Part.{Part}
 use Rattle.recorded.specs.declared.records.Request.{Request}
-use Rattle.recorded.specs.declared.replays.ReplyNumbers.{ReplyNumbers}
 use Rattle.recorded.specs.declared.records.Stored.{Stored}
 
 -- each buffer before a request: room for an answer, and no base in it
@@ -42,36 +39,16 @@ replyTo file request = reply filled filled (verdict (askedIn file request))
 unfoldable pub holdsAllele : List ℕ → ℕ → List ℕ → Bool
 holdsAllele buffer size allele = eqb (length allele) size && sameBases buffer (written allele filled)
 
--- the numbers that come back, and with both buffers the reply that they are
-unfoldable pub numbersOf : Outcome → ReplyNumbers
-numbersOf (outcome.Refuse x) = record {
-  refusal = refusalNumber x;
-  class = 0;
-  start = 0;
-  end = 0;
-  probes = 0;
-  «reference_size» = 0;
-  «alternative_size» = 0;
-}
-numbersOf (outcome.Answer a) = record {
-  refusal = 0;
-  class = classNumber (a .class);
-  start = a .start .0;
-  end = a .end .0;
-  probes = a .probes;
-  «reference_size» = a .«reference_size»;
-  «alternative_size» = a .«alternative_size»;
-}
-
-abbrev pub replyOf : ReplyNumbers → List ℕ → List ℕ → Reply
+-- the reply that numbers and both buffers are
+abbrev pub replyOf : Answer → List ℕ → List ℕ → Reply
 replyOf numbers referenceBuffer alternativeBuffer = record {
   refusal = numbers .refusal;
   class = numbers .class;
   start = numbers .start;
   end = numbers .end;
   probes = numbers .probes;
-  referenceSize = numbers .«reference_size»;
-  alternativeSize = numbers .«alternative_size»;
+  referenceSize = numbers .«reference_len»;
+  alternativeSize = numbers .«alternative_len»;
   referenceBuffer = referenceBuffer;
   alternativeBuffer = alternativeBuffer;
 }

@@ -4,26 +4,15 @@ ghost use Prim.Native.Nat.{_<_};
 ghost use lib.ListN.{length, getD};
 ghost use Rattle.definition.specs.Limits.{answerRoom};
 ghost use Rattle.definition.specs.Reply.{written};
-ghost use Rattle.recorded.specs.Replay.{filled, partIn, replyTo, holdsAllele, numbersOf, replyOf, comparedWith};
+ghost use Rattle.recorded.specs.Replay.{filled, partIn, replyTo, holdsAllele, replyOf, comparedWith};
 use crate::records::Part;
 use crate::records::Request;
 use crate::records::Stored;
 use definition::ANSWER_ROOM;
-use definition::Outcome;
+use replies::Answer;
 
 // What fills both buffers before a request: no base.
 const FILL: u8 = b'.';
-
-// What `normalize` answers, in numbers: 0 where a refusal has none.
-pub struct ReplyNumbers {
-    pub refusal: u32,
-    pub class: u32,
-    pub start: usize,
-    pub end: usize,
-    pub probes: usize,
-    pub reference_size: usize,
-    pub alternative_size: usize,
-}
 
 // The refusal and the class that were answered, and whether both, the range, the probes and both alleles are the stored ones.
 pub struct Compared {
@@ -42,35 +31,6 @@ fn bytes_of<'a>(file: &'a [u8], part: Part) -> &'a [u8]
     let from = part.from;
     let to = part.to;
     text::part(file, from, to)
-}
-
-// What comes back of a request, in numbers.
-fn in_numbers(outcome: Outcome) -> ReplyNumbers
-    ensures { λ r. ⌜ r ≡ numbersOf outcome ⌝ }
-{
-    match outcome {
-        Outcome::Refuse(refusal) => ReplyNumbers {
-            refusal: numbers::refusal_number(refusal),
-            class: 0,
-            start: 0,
-            end: 0,
-            probes: 0,
-            reference_size: 0,
-            alternative_size: 0,
-        },
-        Outcome::Answer(answer) => {
-            let class = answer.class;
-            ReplyNumbers {
-                refusal: 0,
-                class: numbers::class_number(class),
-                start: answer.start.0,
-                end: answer.end.0,
-                probes: answer.probes,
-                reference_size: answer.reference_size,
-                alternative_size: answer.alternative_size,
-            }
-        }
-    }
 }
 
 // The byte at a place of a buffer that holds an allele, and behind it what filled the buffer.
@@ -108,7 +68,7 @@ fn holds_allele(buffer: &[u8], size: usize, allele: &[u8]) -> bool
 fn compare(
     file: &[u8],
     stored: Stored,
-    reply: ReplyNumbers,
+    reply: Answer,
     reference_out: &[u8; ANSWER_ROOM],
     alternative_out: &[u8; ANSWER_ROOM],
 ) -> Compared
@@ -121,10 +81,10 @@ fn compare(
         refusal: reply.refusal,
         class: reply.class,
         same_verdict: (reply.refusal == stored.refusal) & (reply.class == stored.class),
-        same_range: (reply.start == stored.start as usize) & (reply.end == stored.end as usize),
-        same_probes: reply.probes == stored.probes as usize,
-        same_alleles: holds_allele(reference_out, reply.reference_size, reference)
-            & holds_allele(alternative_out, reply.alternative_size, alternative),
+        same_range: (reply.start == stored.start) & (reply.end == stored.end),
+        same_probes: reply.probes == stored.probes,
+        same_alleles: holds_allele(reference_out, reply.reference_len as usize, reference)
+            & holds_allele(alternative_out, reply.alternative_len as usize, alternative),
     }
 }
 
@@ -153,7 +113,7 @@ pub fn replayed(file: &[u8], request: Request, stored: Stored) -> Compared
     compare(
         file,
         stored,
-        in_numbers(outcome),
+        replies::in_numbers(outcome),
         &reference_out,
         &alternative_out,
     )

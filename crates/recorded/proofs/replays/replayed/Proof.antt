@@ -2,8 +2,11 @@
 use mathlib.Core.Path.{ap, _∙_}
 use mir.Syntax.{w32, w64}
 use mir.Facts.{toZ-ofZ}
+use mathlib.Core.List.{[]}
 use borrow.Author.Needs.{needs}
 use Rattle.definition.specs.Verdict.{verdict}
+use Rattle.definition.proofs.Numbers.{reply-fits}
+use Rattle.replies.proofs.Replied.{small-outcome}
 use Rattle.recorded.specs.Replay.{filled, askedIn, comparedWith}
 use Rattle.recorded.proofs.Replied.{replied}
 use Rattle.recorded.proofs.replays.replayed.Statement.{statement}
@@ -28,7 +31,21 @@ normalize-requires : tie.Need-normalize-requires
 normalize-requires c κs = search needs
 
 in-numbers-requires : tie.Need-in-numbers-requires
-in-numbers-requires c κs = search needs
+in-numbers-requires c κs =
+    let s = c .before .before .before .before .before .before .before .before .before .before .before .before .before .before in
+    let request = s .args .request in
+    let told = c .before .before .before .before .before .before .struct-told .given in
+    let m = rw (
+      toZ-ofZ {w = w64} {z = request .numbers .«cds_start»} (record { sfits = told .1 .0 .1 }),
+      toZ-ofZ {w = w64} {z = request .numbers .«cds_end»} (record { sfits = told .1 .1 .0 .1 }),
+      toZ-ofZ {w = w32} {z = request .numbers .start} (record { sfits = told .1 .1 .1 .0 .1 }),
+      toZ-ofZ {w = w32} {z = request .numbers .end} (record { sfits = told .1 .1 .1 .1 .0 .1 }),
+      c .before .before .before .before .before .before .before .before .before .before .before .bytes-of .ensures,
+      c .before .before .before .before .before .before .before .before .before .before .bytes-of2 .ensures,
+      c .before .before .before .before .before .before .before .before .before .bytes-of3 .ensures,
+    )
+    at (c .before .before .normalize .ensures) in
+    rw (m .numbers) (small-outcome (verdict (askedIn (s .args .file .now) request)) [] [] (reply-fits (askedIn (s .args .file .now) request) [] []))
 
 compare-requires : tie.Need-compare-requires
 compare-requires c κs = search needs
