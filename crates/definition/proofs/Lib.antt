@@ -8,13 +8,7 @@ pub mod Meaning
 pub mod Final
 pub mod Pieces
 pub mod Accepted
-pub mod Substitution
-pub mod OneKey
 pub mod Steps
-pub mod Sizes
-pub mod Refusals
-pub mod Answers
-pub mod Numbers
 pub mod Fixes
 pub mod Laid
 pub mod Parts

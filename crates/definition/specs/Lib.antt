@@ -10,6 +10,3 @@ pub mod Verdict
 pub mod Reply
 pub mod Bench
 pub mod Walk
-pub mod Demand1
-pub mod Demand2
-pub mod Demand3

@@ -14,12 +14,12 @@ use Rattle.definition.specs.Request.{Request, alteredBy}
 use Rattle.definition.specs.Answer.{Named, denoted}
 use Rattle.definition.specs.Verdict.{Answer, Verdict, refused, answered, verdict}
 use Rattle.definition.specs.Reply.{written, outcomeOf, referenceOut, alternativeOut, Met}
-use Rattle.definition.specs.Demand1.{FirstSaid, table}
-use Rattle.definition.specs.Demand2.{Moved, AtOnce}
-use Rattle.definition.specs.Demand3.{OneSetting, OnePiece}
-use Rattle.definition.proofs.Refusals.{demand-1}
-use Rattle.definition.proofs.Answers.{demand-2}
-use Rattle.definition.proofs.OneKey.{demand-3}
+use Rattle.demands.specs.Demand1.{FirstSaid, table}
+use Rattle.demands.specs.Demand2.{Moved, AtOnce}
+use Rattle.demands.specs.Demand3.{OneSetting, OnePiece}
+use Rattle.demands.proofs.Refusals.{demand-1}
+use Rattle.demands.proofs.Answers.{demand-2}
+use Rattle.demands.proofs.OneKey.{demand-3}
 use Rattle.spelling.proofs.Spells.{read-back}
 
 -- a refusal is a refusal of the definition, and an answer is one

@@ -5,7 +5,7 @@ use Prim.Native.Nat.{ℕ}
 use Rattle.definition.specs.declared.Outcome.{Outcome}
 use Rattle.definition.specs.Verdict.{Verdict, refused, answered}
 use Rattle.definition.specs.Reply.{reply, written, outcomeOf, referenceOut, alternativeOut, Met}
-use Rattle.definition.proofs.Numbers.{Fits32}
+use Rattle.demands.proofs.Numbers.{Fits32}
 use Rattle.replies.specs.declared.Answer.{Answer}
 use Rattle.replies.specs.Replied.{Small, answerOf, Replied}
 

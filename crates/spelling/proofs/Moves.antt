@@ -16,7 +16,7 @@ use Rattle.definition.specs.Answer.{Named}
 use Rattle.definition.specs.Verdict.{answeredOr16, answerMoved, namedAt, normal, normalAt, movedIn}
 use Rattle.definition.proofs.Places.{from-edge}
 use Rattle.definition.proofs.Trims.{length-reference}
-use Rattle.definition.proofs.Answers.{settled}
+use Rattle.definition.proofs.Final.{Restores, restores}
 use Rattle.alleles.specs.Held.{held}
 use Rattle.slides.specs.declared.Shuffled.{Shuffled}
 use Rattle.moves.specs.Settled.{Asked, Settled}
@@ -42,10 +42,11 @@ module _ (direction : Direction) (kind : Kind) (piece : Piece) (target : List �
 
   pub moved-asked : 1 ≤ length target → length target ≤ longestTarget
       → result.Settled target (s .place .0) (s .reference .count) (s .alternative .head) (s .alternative .count)
+  unfolding Restores
   moved-asked big short = record {
     nonempty = big;
     short = short;
-    inTarget = omega (arith, st .place, st .reference .count, settled direction piece target c (asked .order) (asked .left) (asked .right) .inside .inTarget);
+    inTarget = omega (arith, st .place, st .reference .count, restores direction piece target c (asked .order) (asked .left) (asked .right) .0);
     reference = omega (arith, st .reference .count, reference-short);
     placed = st .alternative .good;
     alternative = omega (arith, st .alternative .count, alternative-short);

@@ -5,7 +5,7 @@ use denote.Ref.{now}
 use mir.Syntax.{w32, w64}
 use mir.ValLaws.{toZ-ofZ}
 use Rattle.definition.specs.Verdict.{verdict}
-use Rattle.definition.proofs.Numbers.{reply-fits}
+use Rattle.demands.proofs.Numbers.{reply-fits}
 use Rattle.normalizer.specs.Asked.{asked}
 use Rattle.replies.proofs.Replied.{small-outcome, replied}
 use borrow.Author.Needs.{needs}

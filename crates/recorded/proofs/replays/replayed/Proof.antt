@@ -5,7 +5,7 @@ use mir.Facts.{toZ-ofZ}
 use mathlib.Core.List.{[]}
 use borrow.Author.Needs.{needs}
 use Rattle.definition.specs.Verdict.{verdict}
-use Rattle.definition.proofs.Numbers.{reply-fits}
+use Rattle.demands.proofs.Numbers.{reply-fits}
 use Rattle.replies.proofs.Replied.{small-outcome}
 use Rattle.recorded.specs.Replay.{filled, askedIn, comparedWith}
 use Rattle.recorded.proofs.Replied.{replied}

@@ -1,21 +1,20 @@
 -- Every number of a reply fits 32 bits: a range ends at most one past the target, and a move compares at most one pair more than the target
 -- has bases. Assumes nothing.
-use Rattle.definition.proofs.Answers.{demand-2}
-use Rattle.definition.proofs.Sizes.{answer-short}
-use mathlib.Core.Logic.{⊎-elim}
+use Rattle.demands.proofs.Answers.{demand-2}
+use Rattle.demands.proofs.Sizes.{answer-short}
 use Rattle.definition.specs.declared.Kind.{Kind}
 use Rattle.definition.specs.declared.Edit.{Edit}
 use Rattle.definition.specs.declared.Edit.the-variants.{Insert, Duplicate, Delete, Replace, Invert}
 use Rattle.definition.specs.declared.Direction.{Direction}
 use Rattle.definition.specs.declared.Refusal.{Refusal}
 use Rattle.definition.specs.declared.Refusal.the-variants.{BadCode, BadWindow, BadTarget, BadBase, CoordinatesOutOfBounds, BadInsertion, TooLong, BadAllele, NoRoom, BadTables, ExonNotFoundForStart, ExonNotFoundForEnd, ExonIntronBoundary, UtrExonBoundary, VariantSpanOutsideSequenceBounds}
 use Rattle.definition.specs.declared.Class.{Class}
 use Rattle.definition.specs.declared.Class.the-variants.{Insertion, Duplication, Deletion, Replacement, Inversion, Unchanged}
 use Rattle.definition.specs.declared.Piece.{Piece}
 use Rattle.definition.proofs.Trims.{trim-facts, length-reference}
 use lib.Seq.{slice, length-slice}
-use Rattle.definition.specs.Demand2.{AtOnce, Moved}
+use Rattle.demands.specs.Demand2.{AtOnce, Moved}
 use Rattle.definition.proofs.Tests.{none-some}
 use mathlib.Core.Path.{_≡_, refl, subst, sym}
 use mathlib.Core.Bool.{Bool, true, false, _&&_}
 use mathlib.Core.List.{List, [], _∷_}
@@ -25,16 +24,16 @@ use mathlib.Core.Logic.{⊎-elim}
 use native.Mathlib.Omega.{arith}
 use lib.Dec.{eqb}
 use lib.ListN.{length}
 use Rattle.definition.specs.Bases.{sameBases}
 use Rattle.definition.specs.Change.{Trimmed, trimmed, trimmedBy, Change, referenceOf}
 use Rattle.definition.specs.Request.{Request, startOf, editOf, endOf, directionOf, changeOf, alteredBy, kindOf}
 use Rattle.definition.specs.Place.{stoppedByBase, isPure, probesOf}
 use Rattle.definition.specs.Answer.{Named, copyBeside, copyStart, namedInsertion, isInversion, namedReplacement, named, firstBaseRule, hasLastBaseRule, lastBaseRule, classNumber}
 use Rattle.definition.specs.Limits.{longestTarget, answerRoom}
-use Rattle.definition.specs.Verdict.{refused, answered, Answer, answered, verdict, replacedAtOnce, answeredAtOnce, Verdict}
+use Rattle.definition.specs.Verdict.{refused, answered, Answer, verdict, replacedAtOnce, answeredAtOnce, Verdict}
 use Rattle.definition.specs.Reply.{Reply, reply, refusalNumber}
 use Rattle.definition.proofs.Meaning.{copy-fits}
 use Rattle.definition.proofs.Accepted.{Sound, accepted-sound, Lies, lies}
 
 -- a range that ends at most one past the target
 abbrev Near : List ℕ → Named → Type 0

@@ -23,12 +23,12 @@ use mathlib.Core.Option.{Option, none, some}
 use Prim.Native.Nat.{ℕ, _-_, _+_}
 use borrow.Author.Tests.{leb-true, leb-false, lt-ltb, le-ltb}
 use lib.Dec.{eqb, leb, ltb}
 use Rattle.definition.specs.Request.{Request, directionOf, kindOf, boundOf, startOf, endOf, editOf, changeOf}
 use Rattle.definition.specs.Piece.{piecesOf, exonHolding, exonPiece, cutAt, transcriptPiece, pieceFor}
 use Rattle.definition.specs.Answer.{Named, leavesTarget}
 use Rattle.definition.specs.Verdict.{Verdict, refused, answered, Row, firstGiven, verdict, refusedOr, answerIn, afterShortcuts, afterPiece, movedIn, normal, normalAt, namedAt, pieceOf, answeredOr16, Answer, answeredAtOnce, rows, answerMoved}
 use Rattle.definition.proofs.Tests.{and-false}
-use Rattle.definition.specs.Demand1.{missing, differ, onBothSides, pieceRows, spanRows, unlessAtOnce, table, noneGiven, FirstSaid, Demand1}
+use Rattle.demands.specs.Demand1.{missing, differ, onBothSides, pieceRows, spanRows, unlessAtOnce, table, noneGiven, FirstSaid, Demand1}
 
 -- the first of two that is there
 abbrev orElse : Option Refusal → Option Refusal → Option Refusal

@@ -9,17 +9,17 @@ use native.Mathlib.Omega.{arith}
 use borrow.Author.Tests.{eqb-true}
 use lib.Dec.{eqb}
 use lib.Seq.{slice}
 use Rattle.definition.specs.declared.Direction.{Direction}
 use Rattle.definition.specs.declared.Piece.{Piece}
 use Rattle.definition.specs.Change.{Change, Trimmed, altered, trimmed}
 use Rattle.definition.specs.Request.{Request, alteredBy, kindOf, directionOf, startOf, endOf, changeOf}
 use Rattle.definition.specs.Place.{Equivalent, Inside, NotFurther, rightEdge, furthest, isPure, placeOf}
 use Rattle.definition.specs.Verdict.{Answer, answered, verdict, pieceOf, normal, normalAt, answerAtOnce, answerMoved}
-use Rattle.definition.specs.Demand2.{Settled, Moved, AtOnce, Demand2}
+use Rattle.demands.specs.Demand2.{Settled, Moved, AtOnce, Demand2}
 use Rattle.definition.proofs.Places.{none-further, furthest-inside}
 use Rattle.definition.proofs.Final.{Restores, restores, Pure, pure, trimmed-inside, named-is}
 use Rattle.definition.proofs.Accepted.{Sound, accepted-sound, accepted-in, Route, atOnce, moved, route, at-once-what, moved-what, Lies, lies, piece-holds}
-use Rattle.definition.proofs.OneKey.{answer-denotes, right-inside}
+use Rattle.demands.proofs.OneKey.{answer-denotes, right-inside}
 
 -- pure or not, by the sizes
 pure-true : (t : Trimmed) → isPure t ≡ true → (t .referenceSize ≡ 0) ⊎ (t .alternativeSize ≡ 0)

@@ -11,28 +11,28 @@ use borrow.Author.Tests.{eqb-true}
 use lib.Dec.{eqb}
 use lib.ListN.{length, take, take-append-drop}
 use lib.Seq.{slice, length-slice}
 use Rattle.definition.specs.declared.Kind.{Kind}
 use Rattle.definition.specs.declared.Edit.{Edit}
 use Rattle.definition.specs.declared.Edit.the-variants.{Insert, Duplicate, Delete, Replace, Invert}
 use Rattle.definition.specs.declared.Direction.{Direction}
 use Rattle.definition.specs.declared.PieceFound.{PieceFound}
 use Rattle.definition.specs.declared.PieceFound.the-variants.{InPiece}
 use Rattle.definition.specs.declared.Class.the-variants.{Unchanged}
 use Rattle.definition.specs.declared.Piece.{Piece}
 use Rattle.definition.specs.Bases.{sameBases}
 use Rattle.definition.specs.Change.{Change, spelled, altered, trimmed}
 use Rattle.definition.specs.Request.{Request, alteredBy, kindOf, editOf, directionOf, startOf, endOf, changeOf}
 use Rattle.definition.specs.Place.{rightEdge}
 use Rattle.definition.specs.Answer.{Named, denoted}
 use Rattle.definition.specs.Verdict.{Answer, answered, verdict, replacedAtOnce, answeredAtOnce, pieceOf, answerIn, normal}
-use Rattle.definition.specs.Demand3.{Demand3}
+use Rattle.demands.specs.Demand3.{Demand3}
 use Rattle.definition.proofs.Tests.{and-true, same-equal, same-refl}
 use Rattle.definition.proofs.Places.{slice-rest}
 use Rattle.definition.proofs.Trims.{one-normal}
 use Rattle.definition.proofs.Final.{normal-denotes}
 use Rattle.definition.proofs.Accepted.{normalOf, accepted-sound, accepted-in, Route, atOnce, moved, route, at-once-what, moved-what, Sound, Lies, lies, piece-holds}
 use Rattle.definition.proofs.Pieces.{Holds}
-use Rattle.definition.proofs.Substitution as Substitution
+use Rattle.demands.proofs.Substitution as Substitution
 
 -- the two requests that are answered at once
 pub identity : (target : List ℕ) (start end : ℕ) → start ≤ end → end ≤ length target → altered target (record { from = start; to = end; inserted = slice start end target }) ≡ target
