@@ -1,2 +1,4 @@
 -- What the contracts of `src/` cite. Assumes nothing.
+pub mod Advice
+pub mod Paths
 pub mod Usage

@@ -1,4 +1,6 @@
 // The tool that a person runs: one change in, its normal form out. Without arguments it answers two examples.
+mod advice;
+mod paths;
 mod usage;
 
 ghost use mathlib.Core.Path.{_≡_};

@@ -2,7 +2,7 @@
 ghost use Rattle.terminal.specs.Page.{Put};
 ghost use Rattle.normalize.specs.Usage.{usageText};
 
-pub fn put_usage(page: &mut [u8], used: usize) -> usize
+pub(crate) fn put_usage(page: &mut [u8], used: usize) -> usize
     ensures { λ r. ⌜ Put (now (page .entry)) used usageText (now (page .exit)) r ⌝ }
 {
     terminal::put(

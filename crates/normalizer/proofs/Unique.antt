@@ -1,10 +1,9 @@
--- Each public contract allows one answer: any two that it allows for the same request are equal, the numbers and every byte of both buffers,
+-- The contract of `normalize` allows one answer: any two that it allows for the same request are equal, the numbers and every byte of both buffers,
 -- accepted or refused. Assumes nothing.
 use mathlib.Core.Path.{sym, _∙_}
 use denote.Ref.{now}
 use Rattle.definition.proofs.Fixes.{Fixes}
 use Rattle.normalizer.proofs.normalize.Reads as normalize
-use Rattle.normalizer.proofs.normalize_checked.Reads as normalize-checked
 
 pub normalize-one-outcome : Fixes (λ κs x at. x) normalize.Post
 normalize-one-outcome κs a x y atX atY p q = p .numbers ∙ sym (q .numbers)
@@ -14,12 +13,3 @@ normalize-one-reference κs a x y atX atY p q = p .referenceBuffer ∙ sym (q .r
 
 pub normalize-one-alternative : Fixes (λ κs x at. now (at .1 .1 .1 .1 .1 .1 .1 .1 .1 .1 .1 .1 .0)) normalize.Post
 normalize-one-alternative κs a x y atX atY p q = p .alternativeBuffer ∙ sym (q .alternativeBuffer)
-
-pub checked-one-outcome : Fixes (λ κs x at. x) normalize-checked.Post
-checked-one-outcome κs a x y atX atY p q = p .numbers ∙ sym (q .numbers)
-
-pub checked-one-reference : Fixes (λ κs x at. now (at .1 .1 .1 .1 .1 .1 .1 .1 .1 .1 .1 .0)) normalize-checked.Post
-checked-one-reference κs a x y atX atY p q = p .referenceBuffer ∙ sym (q .referenceBuffer)
-
-pub checked-one-alternative : Fixes (λ κs x at. now (at .1 .1 .1 .1 .1 .1 .1 .1 .1 .1 .1 .1 .0)) normalize-checked.Post
-checked-one-alternative κs a x y atX atY p q = p .alternativeBuffer ∙ sym (q .alternativeBuffer)

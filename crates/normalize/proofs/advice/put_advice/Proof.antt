@@ -1,12 +1,12 @@
--- `advice::put_advice` meets its contract: line N is what is put for refusal N. Assumes nothing.
+-- `normalize::advice::put_advice` meets its contract: line N is what is put for refusal N. Assumes nothing.
 use mathlib.Core.Path.{refl}
 use borrow.Author.Needs.{needs}
 use Rattle.lines.specs.Lines.{lineOf}
 use Rattle.terminal.proofs.Pages.{same-text}
-use Rattle.advice.specs.Advice.{adviceText}
+use Rattle.normalize.specs.Advice.{adviceText}
 use Rattle.refusals.proofs.Rows.{named}
-use Rattle.advice.proofs.put_advice.Statement.{statement}
-use Rattle.advice.proofs.put_advice.Tie as tie
+use Rattle.normalize.proofs.advice.put_advice.Statement.{statement}
+use Rattle.normalize.proofs.advice.put_advice.Tie as tie
 
 refusal-number-requires : tie.Need-refusal-number-requires
 refusal-number-requires c κs = search needs

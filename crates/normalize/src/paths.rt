@@ -1,10 +1,10 @@
 // The path of the file that has a target's letters, as the words of a command line give it.
 ghost use mathlib.Core.Path.{_≡_};
-ghost use Rattle.paths.specs.Paths.{pathOf};
+ghost use Rattle.normalize.specs.Paths.{pathOf};
 use requests::Asked;
 
 // The path of the file that words name: empty where they name none.
-pub fn path_of(text: &[u8]) -> &[u8]
+pub(crate) fn path_of(text: &[u8]) -> &[u8]
     ensures { λ r. ⌜ now r ≡ pathOf (now (text .entry)) ⌝ }
 {
     match requests::request_of(text) {

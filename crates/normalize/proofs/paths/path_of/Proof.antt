@@ -1,4 +1,4 @@
--- `paths::path_of` meets its contract: by the request that the words make. Assumes nothing.
+-- `normalize::paths::path_of` meets its contract: by the request that the words make. Assumes nothing.
 use mathlib.Core.Path.{_≡_, sym, ap, _∙_}
 use mathlib.Core.List.{List, []}
 use Prim.Native.Nat.{ℕ}
@@ -6,10 +6,10 @@ use native.Mathlib.Omega.{arith}
 use lib.ListN.{length}
 use borrow.Author.Tests.{le-ltb}
 use Rattle.text.specs.Text.{partOf}
-use Rattle.paths.specs.Paths.{pathIn, pathOf}
+use Rattle.normalize.specs.Paths.{pathIn, pathOf}
 use borrow.Author.Needs.{needs}
-use Rattle.paths.proofs.path_of.Statement.{statement}
-use Rattle.paths.proofs.path_of.Tie as tie
+use Rattle.normalize.proofs.paths.path_of.Statement.{statement}
+use Rattle.normalize.proofs.paths.path_of.Tie as tie
 
 no-path : (text : List ℕ) → partOf text 0 0 ≡ []
 no-path text = rw (le-ltb (length text) 0 (omega arith))

@@ -1,10 +1,10 @@
 // What to change where a request is refused: a sentence for each refusal.
 ghost use Rattle.terminal.specs.Page.{Put};
-ghost use Rattle.advice.specs.Advice.{adviceText};
+ghost use Rattle.normalize.specs.Advice.{adviceText};
 use definition::Refusal;
 
 // What to change, in a sentence. Line N of the text is the sentence for refusal N.
-pub fn put_advice(page: &mut [u8], used: usize, refusal: Refusal) -> usize
+pub(crate) fn put_advice(page: &mut [u8], used: usize, refusal: Refusal) -> usize
     ensures { λ r. ⌜ Put (now (page .entry)) used (adviceText refusal) (now (page .exit)) r ⌝ }
 {
     let number = numbers::refusal_number(refusal) as usize;
