@@ -6,7 +6,7 @@ use native.Mathlib.Omega.{arith}
 use lib.ListN.{length, drop, length-drop, drop-of-length-le}
 use lib.Seq.{getD-drop, drop-drop}
 use Rattle.definition.specs.Piece.{exonFrom, exonsIn}
-use Rattle.exons.specs.Numbers.{numberAt}
+use Rattle.little_endian.specs.Numbers.{numberAt}
 
 pub pairs-count : (t : List ℕ) → length (exonsIn t) ≡ length t / 8
 pairs-count (a ∷ b ∷ c ∷ d ∷ e ∷ f ∷ g ∷ h ∷ rest) = omega (arith, pairs-count rest)

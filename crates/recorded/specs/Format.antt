@@ -9,7 +9,7 @@ use lib.IntN.{ℤ}
 use mir.Syntax.{w32, w64}
 use mir.Val.{toZ}
 use lib.ListN.{length}
-use Rattle.exons.specs.Numbers.{numberAt}
+use Rattle.little_endian.specs.Numbers.{numberAt}
 use Rattle.recorded.specs.declared.records.Part.{Part}
 use Rattle.recorded.specs.declared.records.Numbers.{Numbers}
 use Rattle.recorded.specs.declared.records.Request.{Request}

@@ -4,6 +4,7 @@ ghost use mathlib.Core.Path.{_≡_};
 ghost use Prim.Native.Nat.{_≤_};
 ghost use lib.ListN.{length};
 ghost use Rattle.recorded.specs.Format.{storedNumber, signedAt, signedLongAt, partAt, numbersAt, requestAt, storedAt};
+use little_endian::number_at;
 
 // The most bytes that a file may have.
 pub const MOST: usize = 524288;
@@ -50,13 +51,7 @@ pub struct Stored {
     pub to: usize,
 }
 
-fn wide(byte: u8) -> u32
-    ensures { λ r. ⌜ (r ≡ byte) × (r ≤ 255) ⌝ }
-{
-    byte as u32
-}
-
-// The number that four bytes spell, lowest first; 0 where the file ends before them.
+// The number at a place; 0 where the file ends before it does.
 pub fn number(file: &[u8], at: usize) -> u32
     ensures { λ r. ⌜ r ≡ storedNumber (now (file .entry)) at ⌝ }
 {
@@ -66,9 +61,7 @@ pub fn number(file: &[u8], at: usize) -> u32
     if file.len() - 4 < at {
         return 0;
     }
-    let low = wide(file[at]) + wide(file[at + 1]) * 256;
-    let high = wide(file[at + 2]) + wide(file[at + 3]) * 256;
-    low + high * 65536
+    number_at(file, at)
 }
 
 // The number that four bytes spell, with a sign.

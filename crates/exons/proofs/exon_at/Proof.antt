@@ -10,11 +10,17 @@ mul-at c = search needs
 number-at-requires : tie.Need-number-at-requires
 number-at-requires c κs = search needs
 
+cast-start : tie.Need-cast-start
+cast-start c = search needs
+
 add-number-at : tie.Need-add-number-at
 add-number-at c = search needs
 
 number-at-requires-2 : tie.Need-number-at-requires-2
 number-at-requires-2 c κs = search needs
+
+cast-end : tie.Need-cast-end
+cast-end c = search needs
 
 returns : tie.Need-returns
 returns c =
@@ -24,4 +30,4 @@ returns c =
 
 pub exon-at-spec : {M : Type 1} → statement M
 exon-at-spec =
-    tie.close (tie.spec mul-at number-at-requires add-number-at number-at-requires-2 returns)
+    tie.close (tie.spec mul-at number-at-requires cast-start add-number-at number-at-requires-2 cast-end returns)

@@ -1,4 +1,4 @@
--- A table's numbers, by the place of their first byte. Assumes nothing.
+-- A number that bytes hold, by the place of its first byte. Assumes nothing.
 use mathlib.Core.List.{List}
 use Prim.Native.Nat.{ℕ, _+_}
 use lib.ListN.{getD}

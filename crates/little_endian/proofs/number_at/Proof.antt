@@ -1,9 +1,9 @@
--- `exons::number_at` meets its contract: its sum is the definition's. Assumes nothing.
+-- `little_endian::number_at` meets its contract: its sum is the definition's. Assumes nothing.
 use borrow.Author.Needs.{needs}
 use Rattle.definition.specs.Piece.{little}
-use Rattle.exons.specs.Numbers.{numberAt}
-use Rattle.exons.proofs.number_at.Statement.{statement}
-use Rattle.exons.proofs.number_at.Tie as tie
+use Rattle.little_endian.specs.Numbers.{numberAt}
+use Rattle.little_endian.proofs.number_at.Statement.{statement}
+use Rattle.little_endian.proofs.number_at.Tie as tie
 
 shared-slice-read-wide : tie.Need-shared-slice-read-wide
 shared-slice-read-wide c = search needs
