@@ -17,10 +17,10 @@ use Rattle.definition.proofs.Pieces.{piece-for-holds}
 use Rattle.spelling.specs.Asked.{Ranged}
 use Rattle.verdicts.specs.Passed.{Passed}
 
-pub ranged : (target : List ℕ) (kind : Kind) (exons : List ℕ) (start end : ℕ) (edit : Edit) (alternative : List ℕ) (window : ℕ)
+pub ranged : {target : List ℕ} {kind : Kind} {exons : List ℕ} {start end : ℕ} {edit : Edit} {alternative : List ℕ} {window : ℕ}
     → Passed target kind exons start end edit alternative window → (a b : Bound) (p : Piece) → pieceFor kind exons a b start end ≡ InPiece p
     → Ranged p target start end window
-ranged target kind exons start end edit alternative window q a b p e =
+ranged {kind = kind} {exons = exons} {start = start} {end = end} q a b p e =
     let h : (p .left .0 ≤ start) × (end ≤ p .right .0) = piece-for-holds kind exons a b start end (q .ordered) (omega (arith, q .inTarget, q .short)) p e in
     record {
       ordered = q .ordered;

@@ -14,8 +14,10 @@ enum-known-piece c = search needs
 
 spell-requires : tie.Need-spell-requires
 spell-requires c κs =
-    let s = c .before .before .before .before .before .before .before .before .before .before .before in
-    (ranged (s .args .target .now) (s .args .kind) (s .args .exons .now) (s .args .start .0) (s .args .end .0) (s .args .edit) (s .args .alternative .now) (s .args .window) (s .pre .0) (s .args .cds-start) (s .args .cds-end) _ (sym (c .before .before .before .before .before .piece-for .ensures) ∙ c .before .before .before .piece .given .1), (s .pre .0 .read, s .pre .1))
+    let found = c .before .before .before in
+    let s = found .before .before .before .before .before .before .before .before in
+    let piece = sym (found .before .before .piece-for .ensures) ∙ found .piece .given .1 in
+    (ranged (s .pre .0) (s .args .cds-start) (s .args .cds-end) _ piece, (s .pre .0 .read, s .pre .1))
 
 enum-known-refusal : tie.Need-enum-known-refusal
 enum-known-refusal c = search needs
@@ -28,7 +30,10 @@ same-length-2 c = search needs
 
 returns : tie.Need-returns
 unfolding afterPiece
-returns c = rw (sym (c .before .before .before .before .before .before .before .before .before .before .piece-for .ensures) ∙ c .before .before .before .before .before .before .before .before .piece .given .1) (c .before .before .before .before .spell .ensures)
+returns c =
+    let found = c .before .before .before .before .before .before .before .before in
+    let piece = sym (found .before .before .piece-for .ensures) ∙ found .piece .given .1 in
+    rw piece (c .before .before .before .before .spell .ensures)
 
 returns-2 : tie.Need-returns-2
 unfolding afterPiece

@@ -5,7 +5,7 @@ use native.Mathlib.Omega.{arith}
 use lib.ListN.{length}
 use Rattle.definition.specs.Verdict.{afterShortcuts}
 use Rattle.shortcuts.specs.declared.Way.the-variants.{Same, Single, Later}
-use Rattle.shortcuts.proofs.Ways.{namedBy, way-named}
+use Rattle.shortcuts.proofs.Ways.{way-named}
 use Rattle.shortcuts.proofs.InPlace.{way-reads}
 use borrow.Author.Needs.{needs}
 use Rattle.verdicts.proofs.answer_passed.Statement.{statement}
@@ -29,8 +29,10 @@ enum-told c = search needs
 
 answer-in-place-requires : tie.Need-answer-in-place-requires
 answer-in-place-requires c κs =
-    let s = c .before .before .before .before .before .before .before .before .before .before in
-    let read = way-reads (s .args .edit) (s .args .target .now) (s .args .start .0) (s .args .end .0) (s .args .alternative .now) (λ e. differs-same (sym (c .before .before .enum-told .given .1) ∙ c .before .before .before .before .way-of .ensures ∙ e)) in (
+    let matched = c .before .before in
+    let s = matched .before .before .before .before .before .before .before .before in
+    let way = sym (matched .enum-told .given .1) ∙ matched .before .before .way-of .ensures in
+    let read = way-reads _ (s .args .target .now) (s .args .start .0) (s .args .end .0) (s .args .alternative .now) (λ e. differs-same (way ∙ e)) in (
       (s .pre .0 .ordered, s .pre .0 .inTarget, s .pre .0 .short),
       ((s .pre .0 .range, omega (arith, s .pre .0 .read .size, ap length read)), s .pre .1),
     )
@@ -40,8 +42,10 @@ enum-told-2 c = search needs
 
 answer-in-place-requires-2 : tie.Need-answer-in-place-requires-2
 answer-in-place-requires-2 c κs =
-    let s = c .before .before .before .before .before .before .before .before .before .before in
-    let read = way-reads (s .args .edit) (s .args .target .now) (s .args .start .0) (s .args .end .0) (s .args .alternative .now) (λ e. differs-single (sym (c .before .before .enum-told2 .given .1) ∙ c .before .before .before .before .way-of .ensures ∙ e)) in (
+    let matched = c .before .before in
+    let s = matched .before .before .before .before .before .before .before .before in
+    let way = sym (matched .enum-told2 .given .1) ∙ matched .before .before .way-of .ensures in
+    let read = way-reads _ (s .args .target .now) (s .args .start .0) (s .args .end .0) (s .args .alternative .now) (λ e. differs-single (way ∙ e)) in (
       (s .pre .0 .ordered, s .pre .0 .inTarget, s .pre .0 .short),
       ((s .pre .0 .range, omega (arith, s .pre .0 .read .size, ap length read)), s .pre .1),
     )
@@ -61,8 +65,12 @@ same-length-2 c = search needs
 returns : tie.Need-returns
 unfolding afterShortcuts
 returns c =
-    let s = c .before .before .before .before .before .before .before .before .before .before .before .before .before .before .before in
-    rw (way-named (s .args .target .now) (s .args .alternative .now) (s .args .start .0) (s .args .end .0) (s .pre .0 .ordered) (s .pre .0 .inTarget) (s .args .edit) ∙ ap (namedBy (s .args .target .now) (s .args .alternative .now) (s .args .start .0) (s .args .end .0) (s .pre .0 .ordered) (s .pre .0 .inTarget)) (sym (c .before .before .before .before .before .before .before .before .before .way-of .ensures) ∙ c .before .before .before .before .before .before .before .enum-told .given .1)) (c .before .before .before .before .answer-in-place .ensures)
+    let matched = c .before .before .before .before .before .before .before in
+    let s = matched .before .before .before .before .before .before .before .before in
+    let a = s .args in
+    let named = way-named (a .target .now) (a .alternative .now) (a .start .0) (a .end .0) (s .pre .0 .ordered) (s .pre .0 .inTarget) (a .edit) in
+    let way = sym (matched .before .before .way-of .ensures) ∙ matched .enum-told .given .1 in
+    rw (named, way) (c .before .before .before .before .answer-in-place .ensures)
 
 same-length-3 : tie.Need-same-length-3
 same-length-3 c = search needs
@@ -73,8 +81,12 @@ same-length-4 c = search needs
 returns-2 : tie.Need-returns-2
 unfolding afterShortcuts
 returns-2 c =
-    let s = c .before .before .before .before .before .before .before .before .before .before .before .before .before .before .before in
-    rw (way-named (s .args .target .now) (s .args .alternative .now) (s .args .start .0) (s .args .end .0) (s .pre .0 .ordered) (s .pre .0 .inTarget) (s .args .edit) ∙ ap (namedBy (s .args .target .now) (s .args .alternative .now) (s .args .start .0) (s .args .end .0) (s .pre .0 .ordered) (s .pre .0 .inTarget)) (sym (c .before .before .before .before .before .before .before .before .before .way-of .ensures) ∙ c .before .before .before .before .before .before .before .enum-told2 .given .1)) (c .before .before .before .before .answer-in-place2 .ensures)
+    let matched = c .before .before .before .before .before .before .before in
+    let s = matched .before .before .before .before .before .before .before .before in
+    let a = s .args in
+    let named = way-named (a .target .now) (a .alternative .now) (a .start .0) (a .end .0) (s .pre .0 .ordered) (s .pre .0 .inTarget) (a .edit) in
+    let way = sym (matched .before .before .way-of .ensures) ∙ matched .enum-told2 .given .1 in
+    rw (named, way) (c .before .before .before .before .answer-in-place2 .ensures)
 
 same-length-5 : tie.Need-same-length-5
 same-length-5 c = search needs
@@ -85,8 +97,12 @@ same-length-6 c = search needs
 returns-3 : tie.Need-returns-3
 unfolding afterShortcuts
 returns-3 c =
-    let s = c .before .before .before .before .before .before .before .before .before .before .before .before .before .before .before in
-    rw (way-named (s .args .target .now) (s .args .alternative .now) (s .args .start .0) (s .args .end .0) (s .pre .0 .ordered) (s .pre .0 .inTarget) (s .args .edit) ∙ ap (namedBy (s .args .target .now) (s .args .alternative .now) (s .args .start .0) (s .args .end .0) (s .pre .0 .ordered) (s .pre .0 .inTarget)) (sym (c .before .before .before .before .before .before .before .before .before .way-of .ensures) ∙ c .before .before .before .before .before .before .before .enum-told3 .given .1)) (c .before .before .before .before .answer-in-piece .ensures)
+    let matched = c .before .before .before .before .before .before .before in
+    let s = matched .before .before .before .before .before .before .before .before in
+    let a = s .args in
+    let named = way-named (a .target .now) (a .alternative .now) (a .start .0) (a .end .0) (s .pre .0 .ordered) (s .pre .0 .inTarget) (a .edit) in
+    let way = sym (matched .before .before .way-of .ensures) ∙ matched .enum-told3 .given .1 in
+    rw (named, way) (c .before .before .before .before .answer-in-piece .ensures)
 
 pub answer-passed-spec : {M : Type 1} → statement M
 answer-passed-spec =

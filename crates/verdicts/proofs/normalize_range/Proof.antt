@@ -1,9 +1,9 @@
--- `verdicts::normalize_range` meets its contract: each test is its row's, in the table's order. Assumes nothing.
+-- `verdicts::normalize_range` meets its contract: each test is its row's, in the table's order. A row's law goes into `rw` by its bare name; what it asks
+-- of the rows before is found among the facts bound above it. Assumes nothing.
 use mathlib.Core.Path.{sym, _∙_}
 use Rattle.verdicts.proofs.Answers.{refused-met}
 use Rattle.verdicts.proofs.Rows.{row-6, row-7, row-8, row-9, row-10, past-row-10, lengths-inside, room-inside, tables-inside}
 use borrow.Author.Needs.{needs}
-use lib.ListN.{length}
 use Rattle.verdicts.proofs.normalize_range.Statement.{statement}
 use Rattle.verdicts.proofs.normalize_range.Tie as tie
 
@@ -12,56 +12,80 @@ bad-insertion-requires c κs = search needs
 
 returns : tie.Need-returns
 returns c =
-    let s = c .before .before .before .before .before .before .before in
-    rw (row-6 (s .args .target .now) (s .args .kind) (s .args .exons .now) (s .args .cds-start) (s .args .cds-end) (s .args .start .0) (s .args .end .0) (s .args .edit) (s .args .alternative .now) (s .args .direction) _ _ (sym (c .before .bad-insertion .ensures) ∙ c .if1 .taken)) (refused-met _ _ _)
+    let insertion = sym (c .before .bad-insertion .ensures) ∙ c .if1 .taken in
+    rw row-6 (refused-met _ _ _)
 
 too-long-requires : tie.Need-too-long-requires
 too-long-requires c κs = search needs
 
 returns-2 : tie.Need-returns-2
 returns-2 c =
-    let s = c .before .before .before .before .before .before .before .before .before in
-    rw (row-7 (s .args .target .now) (s .args .kind) (s .args .exons .now) (s .args .cds-start) (s .args .cds-end) (s .args .start .0) (s .args .end .0) (s .args .edit) (s .args .alternative .now) (s .args .direction) _ _ (sym (c .before .before .before .bad-insertion .ensures) ∙ c .before .before .if1 .left) (sym (c .before .too-long .ensures) ∙ c .if2 .taken)) (refused-met _ _ _)
+    let after6 = c .before .before in
+    let fits = sym (after6 .before .bad-insertion .ensures) ∙ after6 .if1 .left in
+    let long = sym (c .before .too-long .ensures) ∙ c .if2 .taken in
+    rw row-7 (refused-met _ _ _)
 
 bad-allele-requires : tie.Need-bad-allele-requires
 bad-allele-requires c κs = search needs
 
 returns-3 : tie.Need-returns-3
 returns-3 c =
-    let s = c .before .before .before .before .before .before .before .before .before .before .before in
-    rw (row-8 (s .args .target .now) (s .args .kind) (s .args .exons .now) (s .args .cds-start) (s .args .cds-end) (s .args .start .0) (s .args .end .0) (s .args .edit) (s .args .alternative .now) (s .args .direction) _ _ (sym (c .before .before .before .before .before .bad-insertion .ensures) ∙ c .before .before .before .before .if1 .left) (sym (c .before .before .before .too-long .ensures) ∙ c .before .before .if2 .left) (sym (c .before .bad-allele .ensures) ∙ c .if3 .taken)) (refused-met _ _ _)
+    let after7 = c .before .before in
+    let after6 = after7 .before .before in
+    let fits = sym (after6 .before .bad-insertion .ensures) ∙ after6 .if1 .left in
+    let short = sym (after7 .before .too-long .ensures) ∙ after7 .if2 .left in
+    let bad = sym (c .before .bad-allele .ensures) ∙ c .if3 .taken in
+    rw row-8 (refused-met _ _ _)
 
 no-room-requires : tie.Need-no-room-requires
 no-room-requires c κs = search needs
 
 returns-4 : tie.Need-returns-4
 returns-4 c =
-    let s = c .before .before .before .before .before .before .before .before .before .before .before .before .before in
-    rw (row-9 (s .args .target .now) (s .args .kind) (s .args .exons .now) (s .args .cds-start) (s .args .cds-end) (s .args .start .0) (s .args .end .0) (s .args .edit) (s .args .alternative .now) (s .args .direction) (length (s .args .reference-out .now)) (length (s .args .alternative-out .now)) (sym (c .before .before .before .before .before .before .before .bad-insertion .ensures) ∙ c .before .before .before .before .before .before .if1 .left) (sym (c .before .before .before .before .before .too-long .ensures) ∙ c .before .before .before .before .if2 .left) (sym (c .before .before .before .bad-allele .ensures) ∙ c .before .before .if3 .left) (sym (c .before .no-room .ensures) ∙ c .if4 .taken)) (refused-met _ _ _)
+    let after8 = c .before .before in
+    let after7 = after8 .before .before in
+    let after6 = after7 .before .before in
+    let fits = sym (after6 .before .bad-insertion .ensures) ∙ after6 .if1 .left in
+    let short = sym (after7 .before .too-long .ensures) ∙ after7 .if2 .left in
+    let bases = sym (after8 .before .bad-allele .ensures) ∙ after8 .if3 .left in
+    let small = sym (c .before .no-room .ensures) ∙ c .if4 .taken in
+    rw row-9 (refused-met _ _ _)
 
 bad-tables-requires : tie.Need-bad-tables-requires
 bad-tables-requires c κs = search needs
 
 returns-5 : tie.Need-returns-5
 returns-5 c =
-    let s = c .before .before .before .before .before .before .before .before .before .before .before .before .before .before .before in
-    rw (row-10 (s .args .target .now) (s .args .kind) (s .args .exons .now) (s .args .cds-start) (s .args .cds-end) (s .args .start .0) (s .args .end .0) (s .args .edit) (s .args .alternative .now) (s .args .direction) (length (s .args .reference-out .now)) (length (s .args .alternative-out .now)) (sym (c .before .before .before .before .before .before .before .before .before .bad-insertion .ensures) ∙ c .before .before .before .before .before .before .before .before .if1 .left) (sym (c .before .before .before .before .before .before .before .too-long .ensures) ∙ c .before .before .before .before .before .before .if2 .left) (sym (c .before .before .before .before .before .bad-allele .ensures) ∙ c .before .before .before .before .if3 .left) (sym (c .before .before .before .no-room .ensures) ∙ c .before .before .if4 .left) (sym (c .before .bad-tables .ensures) ∙ c .if5 .taken)) (refused-met _ _ _)
+    let after9 = c .before .before in
+    let after8 = after9 .before .before in
+    let after7 = after8 .before .before in
+    let after6 = after7 .before .before in
+    let fits = sym (after6 .before .bad-insertion .ensures) ∙ after6 .if1 .left in
+    let short = sym (after7 .before .too-long .ensures) ∙ after7 .if2 .left in
+    let bases = sym (after8 .before .bad-allele .ensures) ∙ after8 .if3 .left in
+    let room = sym (after9 .before .no-room .ensures) ∙ after9 .if4 .left in
+    let broken = sym (c .before .bad-tables .ensures) ∙ c .if5 .taken in
+    rw row-10 (refused-met _ _ _)
 
 answer-passed-requires : tie.Need-answer-passed-requires
 answer-passed-requires c κs =
-    let s = c .before .before .before .before .before .before .before .before .before .before .before .before .before .before .before .before .before in
-    let lengths = lengths-inside (s .args .edit) (s .args .start .0) (s .args .end .0) (s .args .alternative .now) (sym (c .before .before .before .before .before .before .before .before .before .too-long .ensures) ∙ c .before .before .before .before .before .before .before .before .if2 .left) in (
+    let after10 = c .before .before in
+    let after9 = after10 .before .before in
+    let after7 = after9 .before .before .before .before in
+    let after6 = after7 .before .before in
+    let s = after6 .before .before .before .before .before .before .before in
+    let lengths = lengths-inside _ _ _ _ (sym (after7 .before .too-long .ensures) ∙ after7 .if2 .left) in (
       record {
         ordered = s .pre .0;
         inTarget = s .pre .1;
         short = s .pre .2;
         range = lengths .0;
-        read = record { fits = (sym (c .before .before .before .before .before .before .before .before .before .before .before .bad-insertion .ensures) ∙ c .before .before .before .before .before .before .before .before .before .before .if1 .left); size = lengths .1 };
+        read = record { fits = sym (after6 .before .bad-insertion .ensures) ∙ after6 .if1 .left; size = lengths .1 };
         some = s .pre .3;
         most = s .pre .4;
-        tables = tables-inside (s .args .kind) (s .args .exons .now) (s .args .cds-start) (s .args .cds-end) _ (sym (c .before .before .before .bad-tables .ensures) ∙ c .before .before .if5 .left);
+        tables = tables-inside (s .args .kind) (s .args .exons .now) _ _ _ (sym (after10 .before .bad-tables .ensures) ∙ after10 .if5 .left);
       },
-      room-inside _ _ (sym (c .before .before .before .before .before .no-room .ensures) ∙ c .before .before .before .before .if4 .left),
+      room-inside _ _ (sym (after9 .before .no-room .ensures) ∙ after9 .if4 .left),
     )
 
 same-length : tie.Need-same-length
@@ -72,8 +96,17 @@ same-length-2 c = search needs
 
 returns-6 : tie.Need-returns-6
 returns-6 c =
-    let s = c .before .before .before .before .before .before .before .before .before .before .before .before .before .before .before .before .before .before .before .before .before .before in
-    rw (past-row-10 (s .args .target .now) (s .args .kind) (s .args .exons .now) (s .args .cds-start) (s .args .cds-end) (s .args .start .0) (s .args .end .0) (s .args .edit) (s .args .alternative .now) (s .args .direction) (length (s .args .reference-out .now)) (length (s .args .alternative-out .now)) (sym (c .before .before .before .before .before .before .before .before .before .before .before .before .before .before .before .before .bad-insertion .ensures) ∙ c .before .before .before .before .before .before .before .before .before .before .before .before .before .before .before .if1 .left) (sym (c .before .before .before .before .before .before .before .before .before .before .before .before .before .before .too-long .ensures) ∙ c .before .before .before .before .before .before .before .before .before .before .before .before .before .if2 .left) (sym (c .before .before .before .before .before .before .before .before .before .before .before .before .bad-allele .ensures) ∙ c .before .before .before .before .before .before .before .before .before .before .before .if3 .left) (sym (c .before .before .before .before .before .before .before .before .before .before .no-room .ensures) ∙ c .before .before .before .before .before .before .before .before .before .if4 .left) (sym (c .before .before .before .before .before .before .before .before .bad-tables .ensures) ∙ c .before .before .before .before .before .before .before .if5 .left)) (c .before .before .before .before .answer-passed .ensures)
+    let after10 = c .before .before .before .before .before .before .before in
+    let after9 = after10 .before .before in
+    let after8 = after9 .before .before in
+    let after7 = after8 .before .before in
+    let after6 = after7 .before .before in
+    let fits = sym (after6 .before .bad-insertion .ensures) ∙ after6 .if1 .left in
+    let short = sym (after7 .before .too-long .ensures) ∙ after7 .if2 .left in
+    let bases = sym (after8 .before .bad-allele .ensures) ∙ after8 .if3 .left in
+    let room = sym (after9 .before .no-room .ensures) ∙ after9 .if4 .left in
+    let tables = sym (after10 .before .bad-tables .ensures) ∙ after10 .if5 .left in
+    rw past-row-10 (c .before .before .before .before .answer-passed .ensures)
 
 pub normalize-range-spec : {M : Type 1} → statement M
 normalize-range-spec =
