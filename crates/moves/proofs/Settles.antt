@@ -28,20 +28,20 @@ use Rattle.slides.specs.Slides.{Sizes, Poised, Part, Slid}
 use Rattle.moves.specs.Settled.{Asked, Settled}
 
 -- rightward the piece shows only by its right edge, leftward only by its left end
-pub edge-alone : (p p′ : Piece) (target : List ℕ) (start : ℕ) (r a : Allele) (s : Shuffled) → rightEdge p target ≡ rightEdge p′ target
+pub edge-alone : {p p′ : Piece} {target : List ℕ} {start : ℕ} {r a : Allele} {s : Shuffled} → rightEdge p target ≡ rightEdge p′ target
     → Slid Rightward p target start r a s → Slid Rightward p′ target start r a s
 unfolding furthest stoppedByBase
-edge-alone p p′ target start r a s e slid = record {
+edge-alone e slid = record {
   place = rw (← e) (slid .place);
   probes = rw (← e) (slid .probes);
   reference = slid .reference;
   alternative = slid .alternative;
 }
 
-pub end-alone : (p p′ : Piece) (target : List ℕ) (start : ℕ) (r a : Allele) (s : Shuffled) → p .left .0 ≡ p′ .left .0
+pub end-alone : {p p′ : Piece} {target : List ℕ} {start : ℕ} {r a : Allele} {s : Shuffled} → p .left .0 ≡ p′ .left .0
     → Slid Leftward p target start r a s → Slid Leftward p′ target start r a s
 unfolding furthest stoppedByBase
-end-alone p p′ target start r a s e slid = record {
+end-alone e slid = record {
   place = rw (← e) (slid .place);
   probes = rw (← e) (slid .probes);
   reference = slid .reference;
@@ -52,7 +52,7 @@ not-pure : (t : Trimmed) → 0 < t .referenceSize → 0 < t .alternativeSize →
 unfolding isPure
 not-pure t h k = rw (ne-eqb (t .referenceSize) 0 (omega arith), ne-eqb (t .alternativeSize) 0 (omega arith))
 
-module _ (direction : Direction) (piece : Piece) (target : List ℕ) (c : Change) (most : ℕ) (asked : Asked piece target c most) where
+module _ (direction : Direction) {piece : Piece} {target : List ℕ} {c : Change} {most : ℕ} (asked : Asked piece target c most) where
   abbrev pub t : Trimmed
   t = trimmed direction target c
 
@@ -70,10 +70,10 @@ module _ (direction : Direction) (piece : Piece) (target : List ℕ) (c : Change
     pub reference : t .referenceSize ≡ c .to - c .from - (front + back)
     pub alternative : t .alternativeSize ≡ length (c .inserted) - (front + back)
 
-  pub trims : (front back : ℕ) → front ≡ trimmedFront direction (slice (c .from) (c .to) target) (c .inserted)
+  pub trims : {front back : ℕ} → front ≡ trimmedFront direction (slice (c .from) (c .to) target) (c .inserted)
       → back ≡ trimmedEnd direction (slice (c .from) (c .to) target) (c .inserted) → Trims front back
   unfolding trimmed trimmedBy referenceOf
-  trims front back ef eb =
+  trims ef eb =
       let size : length (referenceOf target c) ≡ c .to - c .from = length-reference target c (asked .order) fits in
       let total = trim-facts direction (referenceOf target c) (c .inserted) .total in
       record {
@@ -142,8 +142,8 @@ module _ (direction : Direction) (piece : Piece) (target : List ℕ) (c : Change
     }
 
 -- the same, of the numbers and the buffers that the code has: `front` and `back` bases come off, and the rest fills two buffers
-module _ (direction : Direction) (piece : Piece) (target : List ℕ) (c : Change) (most : ℕ) (asked : Asked piece target c most)
-    (front back : ℕ) (tr : Trims direction piece target c most asked front back) where
+module _ {direction : Direction} {piece : Piece} {target : List ℕ} {c : Change} {most : ℕ} {asked : Asked piece target c most}
+    {front back : ℕ} (tr : Trims direction asked front back) where
   abbrev start : ℕ
   start = c .from + front
 
@@ -154,7 +154,7 @@ module _ (direction : Direction) (piece : Piece) (target : List ℕ) (c : Change
   an = length (c .inserted) - (front + back)
 
   in-target : start + rn ≤ length target
-  in-target = omega (arith, tr .inReference, asked .order, fits direction piece target c most asked)
+  in-target = omega (arith, tr .inReference, asked .order, fits direction asked)
 
   -- so many bases from a place on, lent and put into a buffer
   filled-part : (r : Allele) (f n : ℕ) (l : List ℕ) → f + n ≤ length l
@@ -168,12 +168,12 @@ module _ (direction : Direction) (piece : Piece) (target : List ℕ) (c : Change
       }
 
   pub filled-reference : (r : Allele) → Holds r 0 (length (take (start + rn - start) (drop start target))) (take (start + rn - start) (drop start target))
-      → Part r (t direction piece target c most asked .start) (t direction piece target c most asked .referenceSize) target
+      → Part r (t direction asked .start) (t direction asked .referenceSize) target
   filled-reference r w = rw (tr .start, tr .reference) (filled-part r start rn target in-target w)
 
   pub filled-alternative : (a : Allele)
       → Holds a 0 (length (take (front + an - front) (drop front (c .inserted)))) (take (front + an - front) (drop front (c .inserted)))
-      → Part a (t direction piece target c most asked .start) (t direction piece target c most asked .alternativeSize) (after direction piece target c most asked)
+      → Part a (t direction asked .start) (t direction asked .alternativeSize) (after direction asked)
   unfolding altered
   filled-alternative a w =
       let p : Part a front an (c .inserted) = filled-part a front an (c .inserted) (omega (arith, tr .inInserted)) w in
@@ -181,10 +181,11 @@ module _ (direction : Direction) (piece : Piece) (target : List ℕ) (c : Change
       (record {
         good = p .good;
         count = p .count;
-        bases = p .bases ∙ sym (inserted-part target (c .inserted) (c .from) (c .to) front an (omega (arith, asked .order, fits direction piece target c most asked)) (omega (arith, tr .inInserted)));
+        bases = p .bases
+            ∙ sym (inserted-part target (c .inserted) (c .from) (c .to) front an (omega (arith, asked .order, fits direction asked)) (omega (arith, tr .inInserted)));
       })
 
-  sizes : Sizes (t direction piece target c most asked .referenceSize) (t direction piece target c most asked .alternativeSize) most
+  sizes : Sizes (t direction asked .referenceSize) (t direction asked .alternativeSize) most
   sizes = record {
     reference = omega (arith, tr .reference, asked .sizes .reference);
     alternative = omega (arith, tr .alternative, asked .sizes .alternative);
@@ -192,32 +193,32 @@ module _ (direction : Direction) (piece : Piece) (target : List ℕ) (c : Change
     longest = asked .sizes .longest;
   }
 
-  used-up : (rn ≡ 0) ⊎ (an ≡ 0) → (t direction piece target c most asked .referenceSize ≡ 0) ⊎ (t direction piece target c most asked .alternativeSize ≡ 0)
+  used-up : (rn ≡ 0) ⊎ (an ≡ 0) → (t direction asked .referenceSize ≡ 0) ⊎ (t direction asked .alternativeSize ≡ 0)
   used-up (inl e) = inl (tr .reference ∙ e)
   used-up (inr e) = inr (tr .alternative ∙ e)
 
-  module _ (r a : Allele)
+  module _ {r a : Allele}
       (wr : Holds r 0 (length (take (start + rn - start) (drop start target))) (take (start + rn - start) (drop start target)))
       (wa : Holds a 0 (length (take (front + an - front) (drop front (c .inserted)))) (take (front + an - front) (drop front (c .inserted)))) where
     pub filled-stays : (rn ≡ 0 → ⊥) → (an ≡ 0 → ⊥)
         → Settled direction piece target c (record { place = record { 0 = start }; probes = 0; reference = r; alternative = a })
     filled-stays h k =
-        stays direction piece target c most asked (record { place = record { 0 = start }; probes = 0; reference = r; alternative = a })
+        stays direction asked (record { place = record { 0 = start }; probes = 0; reference = r; alternative = a })
         (omega (arith, tr .reference, h)) (omega (arith, tr .alternative, k)) (sym (tr .start)) refl (filled-reference r wr) (filled-alternative a wa)
 
     module _ (one : (rn ≡ 0) ⊎ (an ≡ 0)) where
       pub filled-poised : Poised piece target start r a most
       filled-poised =
           subst (λ (n : ℕ). Poised piece target n r a most) (tr .start)
-          (poised direction piece target c most asked r a (filled-reference r wr) (filled-alternative a wa) (used-up one) sizes)
+          (poised direction asked r a (filled-reference r wr) (filled-alternative a wa) (used-up one) sizes)
 
       pub filled-settles : (s : Shuffled) → Slid direction piece target start r a s → Settled direction piece target c s
       filled-settles s slid =
-          slid-settles direction piece target c most asked r a (filled-reference r wr) (filled-alternative a wa) (used-up one) s
+          slid-settles direction asked r a (filled-reference r wr) (filled-alternative a wa) (used-up one) s
           (subst (λ (n : ℕ). Slid direction piece target n r a s) (sym (tr .start)) slid)
 
 -- a change that is poised in a piece is so up to the piece's right edge, and from its left end on
-module _ (piece : Piece) (target : List ℕ) (start : ℕ) (r a : Allele) (most : ℕ) (p : Poised piece target start r a most) where
+module _ {piece : Piece} {target : List ℕ} {start : ℕ} {r a : Allele} {most : ℕ} (p : Poised piece target start r a most) where
   pub poised-below : (edge : ℕ) → edge ≡ min (piece .right .0) (length target) → Poised (pieceFrom 0 edge) target start r a most
   unfolding rightEdge
   poised-below edge e = record {
@@ -243,11 +244,11 @@ module _ (piece : Piece) (target : List ℕ) (start : ℕ) (r a : Allele) (most 
   }
 
 -- and what is moved that far is moved in the piece
-pub slid-below : (piece : Piece) (target : List ℕ) (start : ℕ) (r a : Allele) (s : Shuffled) (edge : ℕ) → edge ≡ min (piece .right .0) (length target)
+pub slid-below : {piece : Piece} {target : List ℕ} {start : ℕ} {r a : Allele} {s : Shuffled} {edge : ℕ} → edge ≡ min (piece .right .0) (length target)
     → Slid Rightward (pieceFrom 0 edge) target start r a s → Slid Rightward piece target start r a s
 unfolding rightEdge
-slid-below piece target start r a s edge e slid = edge-alone (pieceFrom 0 edge) piece target start r a s (omega arith) slid
+slid-below e slid = edge-alone (omega arith) slid
 
-pub slid-above : (piece : Piece) (target : List ℕ) (start : ℕ) (r a : Allele) (s : Shuffled)
+pub slid-above : {piece : Piece} {target : List ℕ} {start : ℕ} {r a : Allele} {s : Shuffled}
     → Slid Leftward (pieceFrom (piece .left .0) (length target)) target start r a s → Slid Leftward piece target start r a s
-slid-above piece target start r a s slid = end-alone (pieceFrom (piece .left .0) (length target)) piece target start r a s refl slid
+slid-above slid = end-alone refl slid

@@ -15,7 +15,7 @@ below a b n e = omega arith
 add-shared : tie.Need-add-shared
 add-shared c =
     let s = c .before .before in
-    let t = trims (s .args .direction) (s .args .piece) (s .args .target .now) (record { from = s .args .from .0; to = s .args .to .0; inserted = s .args .inserted .now }) (s .args .most) (s .pre .0) (s .args .front) (s .args .back) (s .pre .1 .0) (s .pre .1 .1) in
+    let t = trims (s .args .direction) (s .pre .0) (s .pre .1 .0) (s .pre .1 .1) in
     omega (arith, t .inReference, t .inInserted, s .pre .0 .order, from-edge (s .args .piece) (s .args .target .now) (s .pre .0 .right))
 
 sub-rn : tie.Need-sub-rn
@@ -24,25 +24,25 @@ sub-rn c = search needs
 sub-rn-2 : tie.Need-sub-rn-2
 sub-rn-2 c =
     let s = c .before .before .before .before in
-    let t = trims (s .args .direction) (s .args .piece) (s .args .target .now) (record { from = s .args .from .0; to = s .args .to .0; inserted = s .args .inserted .now }) (s .args .most) (s .pre .0) (s .args .front) (s .args .back) (s .pre .1 .0) (s .pre .1 .1) in
+    let t = trims (s .args .direction) (s .pre .0) (s .pre .1 .0) (s .pre .1 .1) in
     omega (arith, t .inReference, t .inInserted, s .pre .0 .order, from-edge (s .args .piece) (s .args .target .now) (s .pre .0 .right))
 
 sub-an : tie.Need-sub-an
 sub-an c =
     let s = c .before .before .before .before in
-    let t = trims (s .args .direction) (s .args .piece) (s .args .target .now) (record { from = s .args .from .0; to = s .args .to .0; inserted = s .args .inserted .now }) (s .args .most) (s .pre .0) (s .args .front) (s .args .back) (s .pre .1 .0) (s .pre .1 .1) in
+    let t = trims (s .args .direction) (s .pre .0) (s .pre .1 .0) (s .pre .1 .1) in
     omega (arith, t .inReference, t .inInserted, s .pre .0 .order, from-edge (s .args .piece) (s .args .target .now) (s .pre .0 .right))
 
 add-start : tie.Need-add-start
 add-start c =
     let s = c .before .before .before .before .before in
-    let t = trims (s .args .direction) (s .args .piece) (s .args .target .now) (record { from = s .args .from .0; to = s .args .to .0; inserted = s .args .inserted .now }) (s .args .most) (s .pre .0) (s .args .front) (s .args .back) (s .pre .1 .0) (s .pre .1 .1) in
+    let t = trims (s .args .direction) (s .pre .0) (s .pre .1 .0) (s .pre .1 .1) in
     omega (arith, t .inReference, t .inInserted, s .pre .0 .order, from-edge (s .args .piece) (s .args .target .now) (s .pre .0 .right))
 
 add-end : tie.Need-add-end
 add-end c =
     let s = c .before .before .before .before .before in
-    let t = trims (s .args .direction) (s .args .piece) (s .args .target .now) (record { from = s .args .from .0; to = s .args .to .0; inserted = s .args .inserted .now }) (s .args .most) (s .pre .0) (s .args .front) (s .args .back) (s .pre .1 .0) (s .pre .1 .1) in
+    let t = trims (s .args .direction) (s .pre .0) (s .pre .1 .0) (s .pre .1 .1) in
     omega (arith, t .inReference, t .inInserted, s .pre .0 .order, from-edge (s .args .piece) (s .args .target .now) (s .pre .0 .right))
 
 add-last : tie.Need-add-last
@@ -57,7 +57,7 @@ part-filled-start c = search needs
 part-filled-end : tie.Need-part-filled-end
 part-filled-end c =
     let s = c .before .before .before .before .before in
-    let t = trims (s .args .direction) (s .args .piece) (s .args .target .now) (record { from = s .args .from .0; to = s .args .to .0; inserted = s .args .inserted .now }) (s .args .most) (s .pre .0) (s .args .front) (s .args .back) (s .pre .1 .0) (s .pre .1 .1) in
+    let t = trims (s .args .direction) (s .pre .0) (s .pre .1 .0) (s .pre .1 .1) in
     omega (arith, t .inReference, t .inInserted, s .pre .0 .order, from-edge (s .args .piece) (s .args .target .now) (s .pre .0 .right))
 
 filled-requires : tie.Need-filled-requires
@@ -72,7 +72,7 @@ part-filled-start-2 c = search needs
 part-filled-end-2 : tie.Need-part-filled-end-2
 part-filled-end-2 c =
     let s = c .before .before .before .before .before .before .before in
-    let t = trims (s .args .direction) (s .args .piece) (s .args .target .now) (record { from = s .args .from .0; to = s .args .to .0; inserted = s .args .inserted .now }) (s .args .most) (s .pre .0) (s .args .front) (s .args .back) (s .pre .1 .0) (s .pre .1 .1) in
+    let t = trims (s .args .direction) (s .pre .0) (s .pre .1 .0) (s .pre .1 .1) in
     omega (arith, t .inReference, t .inInserted, s .pre .0 .order, from-edge (s .args .piece) (s .args .target .now) (s .pre .0 .right))
 
 filled-requires-2 : tie.Need-filled-requires-2
@@ -81,8 +81,8 @@ filled-requires-2 c κs = search needs
 returns : tie.Need-returns
 returns c =
     let s = c .before .before .before .before .before .before .before .before .before .before .before in
-    let t = trims (s .args .direction) (s .args .piece) (s .args .target .now) (record { from = s .args .from .0; to = s .args .to .0; inserted = s .args .inserted .now }) (s .args .most) (s .pre .0) (s .args .front) (s .args .back) (s .pre .1 .0) (s .pre .1 .1) in
-    filled-stays (s .args .direction) (s .args .piece) (s .args .target .now) (record { from = s .args .from .0; to = s .args .to .0; inserted = s .args .inserted .now }) (s .args .most) (s .pre .0) (s .args .front) (s .args .back) t _ _ (c .before .before .before .before .filled .ensures) (c .before .before .filled2 .ensures) (c .before .if1 .taken) (c .if2 .taken)
+    let t = trims (s .args .direction) (s .pre .0) (s .pre .1 .0) (s .pre .1 .1) in
+    filled-stays t (c .before .before .before .before .filled .ensures) (c .before .before .filled2 .ensures) (c .before .if1 .taken) (c .if2 .taken)
 
 enum-told : tie.Need-enum-told
 enum-told c = search needs
@@ -92,36 +92,41 @@ least-requires c κs = search needs
 
 slide-right-requires : tie.Need-slide-right-requires
 slide-right-requires c κs =
-    let s = c .before .before .before .before .before .before .before .before .before .before .before .before .before in
-    let t = trims (s .args .direction) (s .args .piece) (s .args .target .now) (record { from = s .args .from .0; to = s .args .to .0; inserted = s .args .inserted .now }) (s .args .most) (s .pre .0) (s .args .front) (s .args .back) (s .pre .1 .0) (s .pre .1 .1) in
-    let p = filled-poised (s .args .direction) (s .args .piece) (s .args .target .now) (record { from = s .args .from .0; to = s .args .to .0; inserted = s .args .inserted .now }) (s .args .most) (s .pre .0) (s .args .front) (s .args .back) t _ _ (c .before .before .before .before .before .before .filled .ensures) (c .before .before .before .before .filled2 .ensures) (⊎-elim (λ w. inr (w .1 .left)) (λ w. inl (w .left)) (c .before .before .before .if1 .came)) in
-    (below (s .args .piece .right .0) _ (c .least .result) (c .least .ensures), poised-below (s .args .piece) (s .args .target .now) (s .args .from .0 + s .args .front) _ _ (s .args .most) p (c .least .result) (c .least .ensures))
+    let tested = c .before .before .before in
+    let s = tested .before .before .before .before .before .before .before .before .before .before in
+    let t = trims (s .args .direction) (s .pre .0) (s .pre .1 .0) (s .pre .1 .1) in
+    let used = ⊎-elim (λ w. inr (w .1 .left)) (λ w. inl (w .left)) (tested .if1 .came) in
+    let p = filled-poised t (tested .before .before .before .filled .ensures) (tested .before .filled2 .ensures) used in
+    (below (s .args .piece .right .0) _ (c .least .result) (c .least .ensures), poised-below p (c .least .result) (c .least .ensures))
 
 enum-told-2 : tie.Need-enum-told-2
 enum-told-2 c = search needs
 
 slide-left-requires : tie.Need-slide-left-requires
 slide-left-requires c κs =
-    let s = c .before .before .before .before .before .before .before .before .before .before .before .before in
-    let t = trims (s .args .direction) (s .args .piece) (s .args .target .now) (record { from = s .args .from .0; to = s .args .to .0; inserted = s .args .inserted .now }) (s .args .most) (s .pre .0) (s .args .front) (s .args .back) (s .pre .1 .0) (s .pre .1 .1) in
-    let p = filled-poised (s .args .direction) (s .args .piece) (s .args .target .now) (record { from = s .args .from .0; to = s .args .to .0; inserted = s .args .inserted .now }) (s .args .most) (s .pre .0) (s .args .front) (s .args .back) t _ _ (c .before .before .before .before .before .filled .ensures) (c .before .before .before .filled2 .ensures) (⊎-elim (λ w. inr (w .1 .left)) (λ w. inl (w .left)) (c .before .before .if1 .came)) in
-    poised-above (s .args .piece) (s .args .target .now) (s .args .from .0 + s .args .front) _ _ (s .args .most) p
+    let tested = c .before .before in
+    let s = tested .before .before .before .before .before .before .before .before .before .before in
+    let t = trims (s .args .direction) (s .pre .0) (s .pre .1 .0) (s .pre .1 .1) in
+    let used = ⊎-elim (λ w. inr (w .1 .left)) (λ w. inl (w .left)) (tested .if1 .came) in
+    poised-above (filled-poised t (tested .before .before .before .filled .ensures) (tested .before .filled2 .ensures) used)
 
 returns-2 : tie.Need-returns-2
 returns-2 c =
-    let s = c .before .before .before .before .before .before .before .before .before .before .before .before .before .before in
-    let t = trims (s .args .direction) (s .args .piece) (s .args .target .now) (record { from = s .args .from .0; to = s .args .to .0; inserted = s .args .inserted .now }) (s .args .most) (s .pre .0) (s .args .front) (s .args .back) (s .pre .1 .0) (s .pre .1 .1) in
-    filled-settles (s .args .direction) (s .args .piece) (s .args .target .now) (record { from = s .args .from .0; to = s .args .to .0; inserted = s .args .inserted .now }) (s .args .most) (s .pre .0) (s .args .front) (s .args .back) t _ _ (c .before .before .before .before .before .before .before .filled .ensures) (c .before .before .before .before .before .filled2 .ensures) (⊎-elim (λ w. inr (w .1 .left)) (λ w. inl (w .left)) (c .before .before .before .before .if1 .came)) (c .slide-right .result)
-    (rw (c .before .before .enum-told .given .1)
-    (slid-below (s .args .piece) (s .args .target .now) (s .args .from .0 + s .args .front) _ _ (c .slide-right .result) (c .before .least .result) (c .before .least .ensures) (c .slide-right .ensures)))
+    let tested = c .before .before .before .before in
+    let s = tested .before .before .before .before .before .before .before .before .before .before in
+    let t = trims (s .args .direction) (s .pre .0) (s .pre .1 .0) (s .pre .1 .1) in
+    let used = ⊎-elim (λ w. inr (w .1 .left)) (λ w. inl (w .left)) (tested .if1 .came) in
+    filled-settles t (tested .before .before .before .filled .ensures) (tested .before .filled2 .ensures) used (c .slide-right .result)
+    (rw (c .before .before .enum-told .given .1) (slid-below (c .before .least .ensures) (c .slide-right .ensures)))
 
 returns-3 : tie.Need-returns-3
 returns-3 c =
-    let s = c .before .before .before .before .before .before .before .before .before .before .before .before .before in
-    let t = trims (s .args .direction) (s .args .piece) (s .args .target .now) (record { from = s .args .from .0; to = s .args .to .0; inserted = s .args .inserted .now }) (s .args .most) (s .pre .0) (s .args .front) (s .args .back) (s .pre .1 .0) (s .pre .1 .1) in
-    filled-settles (s .args .direction) (s .args .piece) (s .args .target .now) (record { from = s .args .from .0; to = s .args .to .0; inserted = s .args .inserted .now }) (s .args .most) (s .pre .0) (s .args .front) (s .args .back) t _ _ (c .before .before .before .before .before .before .filled .ensures) (c .before .before .before .before .filled2 .ensures) (⊎-elim (λ w. inr (w .1 .left)) (λ w. inl (w .left)) (c .before .before .before .if1 .came)) (c .slide-left .result)
-    (rw (c .before .enum-told2 .given .1)
-    (slid-above (s .args .piece) (s .args .target .now) (s .args .from .0 + s .args .front) _ _ (c .slide-left .result) (c .slide-left .ensures)))
+    let tested = c .before .before .before in
+    let s = tested .before .before .before .before .before .before .before .before .before .before in
+    let t = trims (s .args .direction) (s .pre .0) (s .pre .1 .0) (s .pre .1 .1) in
+    let used = ⊎-elim (λ w. inr (w .1 .left)) (λ w. inl (w .left)) (tested .if1 .came) in
+    filled-settles t (tested .before .before .before .filled .ensures) (tested .before .filled2 .ensures) used (c .slide-left .result)
+    (rw (c .before .enum-told2 .given .1) (slid-above (c .slide-left .ensures)))
 
 pub move-trimmed-spec : {M : Type 1} → statement M
 move-trimmed-spec =
