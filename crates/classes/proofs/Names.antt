@@ -90,7 +90,8 @@ module _ (direction : Direction) (piece : Piece) (target bases : List ℕ) (q k 
       calls target bases Unchanged q q q 0 0 _ (omega arith) (omega arith) (omega arith)
       (named-unchanged direction piece target q (slice q (q + k) target) bases (omega (arith, size)) (omega arith) ∙ rw none)
 
-  pub calls-insertion : k ≡ 0 → 1 ≤ m → copyBeside direction piece target q bases ≡ false → CallsAt direction piece target q k bases (unanchored Insertion q (q + 1) q 0 m)
+  pub calls-insertion : k ≡ 0 → 1 ≤ m → copyBeside direction piece target q bases ≡ false
+      → CallsAt direction piece target q k bases (unanchored Insertion q (q + 1) q 0 m)
   unfolding namedInsertion
   calls-insertion z n t =
       calls target bases Insertion q (q + 1) q 0 m _ (omega arith) (omega arith) (omega arith)

@@ -21,7 +21,9 @@ use Rattle.definition.specs.declared.Piece.{Piece}
 use Rattle.definition.specs.Change.{Change, spelled, trimmed}
 use Rattle.definition.specs.Request.{Request, alteredBy, boundOf, kindOf, editOf, directionOf, startOf, endOf, changeOf}
 use Rattle.definition.specs.Limits.{longestTarget, longestAllele}
-use Rattle.definition.specs.Verdict.{Answer, Verdict, refused, answered, verdict, Row, firstGiven, targetRows, changeRows, requestRows, rows, badTarget, outOfBounds, badInsertion, tooLong, readAlternative, answeredAtOnce, pieceOf, normal, answerAtOnce, answerMoved, answeredOr16, movedIn, afterPiece, afterShortcuts, answerIn, refusedOr}
+use Rattle.definition.specs.Verdict.{Answer, Verdict, refused, answered, verdict, Row, firstGiven, targetRows, changeRows, requestRows, rows}
+use Rattle.definition.specs.Verdict.{badTarget, outOfBounds, badInsertion, tooLong, readAlternative, answeredAtOnce, pieceOf, normal, answerAtOnce}
+use Rattle.definition.specs.Verdict.{answerMoved, answeredOr16, movedIn, afterPiece, afterShortcuts, answerIn, refusedOr}
 use Rattle.definition.specs.Answer.{Named}
 use Rattle.definition.proofs.Tests.{or-false}
 use Rattle.definition.proofs.Pieces.{Holds, piece-for-holds}
@@ -71,9 +73,11 @@ pub sound : (r : Request) → firstGiven (requestRows r) ≡ none → Sound r
 unfolding requestRows targetRows changeRows badTarget outOfBounds tooLong startOf endOf
 sound r e =
     let row₃ : (eqb (length (r .target)) 0 || ltb longestTarget (length (r .target))) ≡ false = none-given (requestRows r) e 2 in
-    let row₅ : (ltZ (r .rangeStart) (pos 0) || leZ (r .rangeEnd) (r .rangeStart) || ltZ (pos (length (r .target))) (r .rangeEnd)) ≡ false = none-given (requestRows r) e 4 in
+    let row₅ : (ltZ (r .rangeStart) (pos 0) || leZ (r .rangeEnd) (r .rangeStart) || ltZ (pos (length (r .target))) (r .rangeEnd)) ≡ false =
+    none-given (requestRows r) e 4 in
     let row₆ : badInsertion (editOf (r .editCode)) r ≡ false = none-given (requestRows r) e 5 in
-    let row₇ : (ltb longestAllele (endOf r - startOf r) || ltb longestAllele (length (readAlternative (editOf (r .editCode)) (r .alternative)))) ≡ false = none-given (requestRows r) e 6 in
+    let row₇ : (ltb longestAllele (endOf r - startOf r) || ltb longestAllele (length (readAlternative (editOf (r .editCode)) (r .alternative)))) ≡ false =
+    none-given (requestRows r) e 6 in
     let l = or-false (ltb longestAllele (endOf r - startOf r)) (ltb longestAllele (length (readAlternative (editOf (r .editCode)) (r .alternative)))) row₇ in
     let b = bounds (r .rangeStart) (r .rangeEnd) (length (r .target)) row₅ in
     let t = or-false (eqb (length (r .target)) 0) (ltb longestTarget (length (r .target))) row₃ in
@@ -175,7 +179,8 @@ pub moved-what : (r : Request) (p : Piece) (n : Named) (a : Answer) → reportOf
 unfolding answerMoved
 moved-what r p n a e = ap (λ (x : Answer). x .what) e
 
-after-piece : (r : Request) (found : PieceFound) (a : Answer) → afterPiece (directionOf (r .directionCode)) (kindOf (r .kindCode)) (r .target) (changeOf r) found ≡ answered a → Route r found a
+after-piece : (r : Request) (found : PieceFound) (a : Answer)
+    → afterPiece (directionOf (r .directionCode)) (kindOf (r .kindCode)) (r .target) (changeOf r) found ≡ answered a → Route r found a
 unfolding afterPiece movedIn
 after-piece r (NoPiece n) a e = never e
 after-piece r (InPiece p) a e =

@@ -16,7 +16,7 @@ use Rattle.definition.specs.declared.Kind.{Kind}
 use Rattle.definition.specs.declared.Direction.{Direction}
 use Rattle.definition.specs.declared.Piece.{Piece}
 use Rattle.definition.specs.Prefix.{lcp, lcs}
-use Rattle.definition.specs.Change.{Change, splice, altered, referenceOf, trimmedFront, trimmedEnd, trimmedBy, trimmed}
+use Rattle.definition.specs.Change.{Change, Trimmed, splice, altered, referenceOf, trimmedFront, trimmedEnd, trimmedBy, trimmed}
 use Rattle.definition.specs.Place.{Equivalent, Inside, rightEdge, furthest, isPure, placeOf}
 use Rattle.definition.specs.Answer.{Named, named, firstBaseRule, lastBaseRule, leavesTarget, denoted}
 use Rattle.definition.specs.Verdict.{normal, normalAt, namedAt}
@@ -100,9 +100,10 @@ module _ (direction : Direction) (piece : Piece) (target : List ℕ) (c : Change
   pure u =
       let after : List ℕ = altered target c in
       let w : ℕ = lcp target after + lcs target after in
-      let kr : trimmed direction target c .referenceSize ≡ length target - min w (min (length target) (length after)) = trimmed-reference direction target c order fits in
-      let ka : trimmed direction target c .alternativeSize ≡ length after - min w (min (length target) (length after)) = trimmed-alternative direction target c order fits in
-      let d : (length target - min w (min (length target) (length after)) ≡ length target - length after) × (length after - min w (min (length target) (length after)) ≡ length after - length target) =
+      let t : Trimmed = trimmed direction target c in
+      let kr : t .referenceSize ≡ length target - min w (min (length target) (length after)) = trimmed-reference direction target c order fits in
+      let ka : t .alternativeSize ≡ length after - min w (min (length target) (length after)) = trimmed-alternative direction target c order fits in
+      let d =
       pure-sizes (length target) (length after) w (⊎-elim (λ z. inl (sym kr ∙ z)) (λ z. inr (sym ka ∙ z)) u) in
       record {
         reference = kr ∙ d .0;
@@ -127,8 +128,9 @@ module _ (direction : Direction) (piece : Piece) (target : List ℕ) (c : Change
   restores-mixed h k =
       let after : List ℕ = altered target c in
       let w : ℕ = lcp target after + lcs target after in
-      let kr : trimmed direction target c .referenceSize ≡ length target - min w (min (length target) (length after)) = trimmed-reference direction target c order fits in
-      let ka : trimmed direction target c .alternativeSize ≡ length after - min w (min (length target) (length after)) = trimmed-alternative direction target c order fits in
+      let t : Trimmed = trimmed direction target c in
+      let kr : t .referenceSize ≡ length target - min w (min (length target) (length after)) = trimmed-reference direction target c order fits in
+      let ka : t .alternativeSize ≡ length after - min w (min (length target) (length after)) = trimmed-alternative direction target c order fits in
       let d : (w < length target) × (w < length after) = mixed-below (length target) (length after) w (λ z. h (kr ∙ z)) (λ z. k (ka ∙ z)) in
       let g : min w (min (length target) (length after)) ≡ w = mixed-kept (length target) (length after) w (d .0) (d .1) in
       let x = mixed-end (length target) (lcp target after) (lcs target after) (d .0) in

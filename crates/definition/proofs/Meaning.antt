@@ -18,7 +18,8 @@ use Rattle.definition.specs.declared.Class.the-variants.{Insertion, Dupl
 use Rattle.definition.specs.declared.Piece.{Piece}
 use Rattle.definition.specs.Bases.{sameBases, reverseComplement}
 use Rattle.definition.specs.Change.{splice}
-use Rattle.definition.specs.Answer.{Named, copyBeside, copyStart, namedInsertion, isInversion, namedReplacement, named, replacedOrUnchanged, firstBaseRule, hasLastBaseRule, lastBaseRule, denoted}
+use Rattle.definition.specs.Answer.{Named, copyBeside, copyStart, namedInsertion, isInversion, namedReplacement, named}
+use Rattle.definition.specs.Answer.{replacedOrUnchanged, firstBaseRule, hasLastBaseRule, lastBaseRule, denoted}
 use Rattle.definition.proofs.Tests.{and-true, same-equal, reverse-complement-twice}
 use Rattle.definition.proofs.Places.{slice-rest}
 

@@ -31,7 +31,8 @@ holding p [] x e =
     absurd (omega arith)
 holding p (y ∷ xs) x e = go (leb (y .start .0) p && ltb p (y .end .0)) refl (holding p xs x)
   where
-    go : (b : Bool) → (leb (y .start .0) p && ltb p (y .end .0)) ≡ b → (exonHolding p xs ≡ Holding x → (x .start .0 ≤ p) × (p < x .end .0)) → (x .start .0 ≤ p) × (p < x .end .0)
+    go : (b : Bool) → (leb (y .start .0) p && ltb p (y .end .0)) ≡ b → (exonHolding p xs ≡ Holding x → (x .start .0 ≤ p) × (p < x .end .0))
+        → (x .start .0 ≤ p) × (p < x .end .0)
     go true t rest =
         let f : Holding y ≡ Holding x = rw t at e in
         let g : y ≡ x = cc in
@@ -56,7 +57,8 @@ exon-holds start end o xs = go (exonHolding start xs) (exonHolding (end - 1) xs)
     pair : (x y : Exon) (b : Bool) → (eqb (x .start .0) (y .start .0) && eqb (x .end .0) (y .end .0)) ≡ b
         → (x .start .0 ≤ start) × (start < x .end .0) → (y .start .0 ≤ end - 1) × (end - 1 < y .end .0) → Holds start end (exonPiece (Holding x) (Holding y))
     pair x y true t h k =
-        let u : (eqb (x .start .0) (y .start .0) ≡ true) × (eqb (x .end .0) (y .end .0) ≡ true) = and-true (eqb (x .start .0) (y .start .0)) (eqb (x .end .0) (y .end .0)) t in
+        let u : (eqb (x .start .0) (y .start .0) ≡ true) × (eqb (x .end .0) (y .end .0) ≡ true) =
+        and-true (eqb (x .start .0) (y .start .0)) (eqb (x .end .0) (y .end .0)) t in
         let v : x .end .0 ≡ y .end .0 = eqb-true (x .end .0) (y .end .0) (u .1) in
         rw t (holds-of (pieceFrom (x .start .0) (x .end .0)) (h .0, omega (arith, h, k, v)))
     pair x y false t h k = rw t (λ p e. no e)

@@ -140,7 +140,9 @@ module _ (piece : Piece) (target after : List ℕ) (s : ℕ)
 
   pub furthest-inside : (direction : Direction)
       → Inside piece target (length target - length after) (furthest direction piece target after (length target - length after))
-  furthest-inside direction = record { atLeft = furthest-bounds direction .2; atRight = from-edge piece target (furthest-bounds direction .3) .0; inTarget = from-edge piece target (furthest-bounds direction .3) .1 }
+  furthest-inside direction =
+      let below = from-edge piece target (furthest-bounds direction .3) in
+      record { atLeft = furthest-bounds direction .2; atRight = below .0; inTarget = below .1 }
 
 pub none-further : (direction : Direction) (piece : Piece) (target after : List ℕ) (q : ℕ)
     → Equivalent target after (length target - length after) q → Inside piece target (length target - length after) q

@@ -51,16 +51,18 @@ module _ (target after : List ℕ) (q : ℕ) (here : Equivalent target after (le
 -- one base to the left: the bases before the two rests
 module _ (target after : List ℕ) (q : ℕ) (here : Equivalent target after (length target - length after) (suc q)) where
   left-numbers : (n n′ p s : ℕ) → suc q ≤ p → p ≤ n → p ≤ n′ → min n n′ - suc q ≤ s
-      → (suc (min n n′ - suc q) ≡ min n n′ - q) × (n - suc (min n n′ - suc q) ≡ q + (n - n′)) × (n′ - suc (min n n′ - suc q) ≡ q + (n′ - n)) × (min n n′ - suc q < n) × (min n n′ - suc q < n′)
+      → (suc (min n n′ - suc q) ≡ min n n′ - q) × (n - suc (min n n′ - suc q) ≡ q + (n - n′)) × (n′ - suc (min n n′ - suc q) ≡ q + (n′ - n))
+      × (min n n′ - suc q < n) × (min n n′ - suc q < n′)
   left-numbers n n′ p s h i j k = (omega arith, omega arith, omega arith, omega arith, omega arith)
 
   pub step-left : (getD target (q + (length target - length after)) 0 ≡ getD after (q + (length after - length target)) 0)
       ↔ Equivalent target after (length target - length after) q
   step-left =
       let b : (suc q ≤ lcp target after) × (min (length target) (length after) - suc q ≤ lcs target after) = equivalent→interval target after (suc q) here in
-      let m = left-numbers (length target) (length after) (lcp target after) (lcs target after) (b .0) (lcp-le-left target after) (lcp-le-right target after) (b .1) in (
-        (λ e. interval→equivalent target after q (omega (arith, b .0)) (rw (m .0) at (lcs-next target after (min (length target) (length after) - suc q) (m .3) (m .4) (b .1) (rw (m .1, m .2) e)))),
-        (λ e. rw (m .1, m .2) at (lcs-same target after (min (length target) (length after) - suc q) (m .3) (m .4) (rw (m .0) (equivalent→interval target after q e .1)))),
+      let m = left-numbers (length target) (length after) (lcp target after) (lcs target after) (b .0) (lcp-le-left target after) (lcp-le-right target after) (b .1) in
+      let n : ℕ = min (length target) (length after) - suc q in (
+        (λ e. interval→equivalent target after q (omega (arith, b .0)) (rw (m .0) at (lcs-next target after n (m .3) (m .4) (b .1) (rw (m .1, m .2) e)))),
+        (λ e. rw (m .1, m .2) at (lcs-same target after n (m .3) (m .4) (rw (m .0) (equivalent→interval target after q e .1)))),
       )
 
 -- a place at the edge, or one whose next pair of bases differs, is the furthest

@@ -110,7 +110,9 @@ module _ (target : List ℕ) (c : Change) (order : c .from ≤ c .to) (fits : c 
       omega (arith, whole, length-drop (c .to) target, lcs-after pre pre ref (c .inserted))
 
   pub kept-of : kept target (altered target c)
-      ≡ c .from + ((length target - c .to) + min (lcp (referenceOf target c) (c .inserted) + lcs (referenceOf target c) (c .inserted)) (min (length (referenceOf target c)) (length (c .inserted))))
+      ≡ c .from
+      + ((length target - c .to)
+      + min (lcp (referenceOf target c) (c .inserted) + lcs (referenceOf target c) (c .inserted)) (min (length (referenceOf target c)) (length (c .inserted))))
   unfolding kept
   kept-of =
       ap (min (lcp target (altered target c) + lcs target (altered target c))) (omega (arith, length-altered, length-reference))
@@ -207,12 +209,14 @@ pub normal-depends : (direction : Direction) (kind : Kind) (piece : Piece) (targ
     ≡ normal direction kind piece target (altered target c) (canonical target (altered target c))
 unfolding normal canonical
 normal-depends direction kind piece target c order fits =
-    let k : trimmed direction target c .referenceSize ≡ length target - kept target (altered target c) = trimmed-reference direction target c order fits in
-    let m : trimmed direction target c .alternativeSize ≡ length (altered target c) - kept target (altered target c) = trimmed-alternative direction target c order fits in
-    let q : placeOf direction piece target (altered target c) (trimmed direction target c) ≡ placeOf direction piece target (altered target c) (canonical target (altered target c)) =
-    placed direction piece target (altered target c) (trimmed direction target c) (canonical target (altered target c)) k m (trimmed-start direction target c order fits) in
-    ap₂ (λ (a b : ℕ). normalAt direction kind piece target (altered target c) a b (trimmed direction target c .alternativeSize)) q k
-    ∙ ap (normalAt direction kind piece target (altered target c) (placeOf direction piece target (altered target c) (canonical target (altered target c))) (length target - kept target (altered target c))) m
+    let after : List ℕ = altered target c in
+    let t : Trimmed = trimmed direction target c in
+    let k : t .referenceSize ≡ length target - kept target after = trimmed-reference direction target c order fits in
+    let m : t .alternativeSize ≡ length after - kept target after = trimmed-alternative direction target c order fits in
+    let q : placeOf direction piece target after t ≡ placeOf direction piece target after (canonical target after) =
+    placed direction piece target after t (canonical target after) k m (trimmed-start direction target c order fits) in
+    ap₂ (λ (a b : ℕ). normalAt direction kind piece target after a b (t .alternativeSize)) q k
+    ∙ ap (normalAt direction kind piece target after (placeOf direction piece target after (canonical target after)) (length target - kept target after)) m
 
 -- Law 5: two spellings of one altered sequence have one normal change
 pub one-normal : (direction : Direction) (kind : Kind) (piece : Piece) (target : List ℕ) (c d : Change)

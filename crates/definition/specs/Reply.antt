@@ -4,7 +4,9 @@ use mathlib.Core.Path.{_≡_}
 use mathlib.Core.List.{List, [], _++_}
 use lib.ListN.{length, drop}
 use Rattle.definition.specs.declared.Refusal.{Refusal}
-use Rattle.definition.specs.declared.Refusal.the-variants.{BadCode, BadWindow, BadTarget, BadBase, CoordinatesOutOfBounds, BadInsertion, TooLong, BadAllele, NoRoom, BadTables, ExonNotFoundForStart, ExonNotFoundForEnd, ExonIntronBoundary, UtrExonBoundary, VariantSpanOutsideSequenceBounds}
+use Rattle.definition.specs.declared.Refusal.the-variants.{BadCode, BadWindow, BadTarget, BadBase, CoordinatesOutOfBounds, BadInsertion, TooLong}
+use Rattle.definition.specs.declared.Refusal.the-variants.{BadAllele, NoRoom, BadTables, ExonNotFoundForStart, ExonNotFoundForEnd}
+use Rattle.definition.specs.declared.Refusal.the-variants.{ExonIntronBoundary, UtrExonBoundary, VariantSpanOutsideSequenceBounds}
 use Rattle.definition.specs.declared.Outcome.{Outcome}
 use Rattle.definition.specs.declared.Outcome.the-variants.{Answer, Refuse}
 use Rattle.definition.specs.Answer.{classNumber}

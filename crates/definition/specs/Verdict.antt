@@ -16,7 +16,8 @@ use Rattle.definition.specs.declared.Edit.{Edit}
 use Rattle.definition.specs.declared.Edit.the-variants.{Insert, Duplicate, Delete, Replace, Invert}
 use Rattle.definition.specs.declared.Direction.{Direction}
 use Rattle.definition.specs.declared.Refusal.{Refusal}
-use Rattle.definition.specs.declared.Refusal.the-variants.{BadCode, BadWindow, BadTarget, BadBase, CoordinatesOutOfBounds, BadInsertion, TooLong, BadAllele, NoRoom, BadTables, VariantSpanOutsideSequenceBounds}
+use Rattle.definition.specs.declared.Refusal.the-variants.{BadCode, BadWindow, BadTarget, BadBase, CoordinatesOutOfBounds, BadInsertion, TooLong}
+use Rattle.definition.specs.declared.Refusal.the-variants.{BadAllele, NoRoom, BadTables, VariantSpanOutsideSequenceBounds}
 use Rattle.definition.specs.declared.PieceFound.{PieceFound}
 use Rattle.definition.specs.declared.PieceFound.the-variants.{InPiece, NoPiece}
 use Rattle.definition.specs.declared.Class.the-variants.{Replacement, Unchanged}

@@ -90,7 +90,8 @@ module _ (r : Request) (a : Answer) (e : verdict r ≡ answered a) where
         settled = settled direction p (r .target) (changeOf r) (l .order) (omega (arith, l .left, holds .0))
             (right-inside (r .target) p (changeOf r .to) (endOf r) (l .right) (sound .inTarget) (holds .1));
         what = sym (moved-what r p n a h)
-            ∙ sym (named-is direction (kindOf (r .kindCode)) p (r .target) q (slice q (q + t .referenceSize) (r .target)) (slice q (q + t .alternativeSize) (alteredBy r)) n g);
+            ∙ sym (named-is direction (kindOf (r .kindCode)) p (r .target) q
+            (slice q (q + t .referenceSize) (r .target)) (slice q (q + t .alternativeSize) (alteredBy r)) n g);
         probes = sym (ap (λ (x : Answer). x .probes) h);
       })
 

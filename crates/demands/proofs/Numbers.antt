@@ -7,7 +7,9 @@ use Rattle.definition.specs.declared.Edit.{Edit}
 use Rattle.definition.specs.declared.Edit.the-variants.{Insert, Duplicate, Delete, Replace, Invert}
 use Rattle.definition.specs.declared.Direction.{Direction}
 use Rattle.definition.specs.declared.Refusal.{Refusal}
-use Rattle.definition.specs.declared.Refusal.the-variants.{BadCode, BadWindow, BadTarget, BadBase, CoordinatesOutOfBounds, BadInsertion, TooLong, BadAllele, NoRoom, BadTables, ExonNotFoundForStart, ExonNotFoundForEnd, ExonIntronBoundary, UtrExonBoundary, VariantSpanOutsideSequenceBounds}
+use Rattle.definition.specs.declared.Refusal.the-variants.{BadCode, BadWindow, BadTarget, BadBase, CoordinatesOutOfBounds, BadInsertion, TooLong}
+use Rattle.definition.specs.declared.Refusal.the-variants.{BadAllele, NoRoom, BadTables, ExonNotFoundForStart, ExonNotFoundForEnd}
+use Rattle.definition.specs.declared.Refusal.the-variants.{ExonIntronBoundary, UtrExonBoundary, VariantSpanOutsideSequenceBounds}
 use Rattle.definition.specs.declared.Class.{Class}
 use Rattle.definition.specs.declared.Class.the-variants.{Insertion, Duplication, Deletion, Replacement, Inversion, Unchanged}
 use Rattle.definition.specs.declared.Piece.{Piece}
@@ -28,7 +30,8 @@ use Rattle.definition.specs.Bases.{sameBases}
 use Rattle.definition.specs.Change.{Trimmed, trimmed, trimmedBy, Change, referenceOf}
 use Rattle.definition.specs.Request.{Request, startOf, editOf, endOf, directionOf, changeOf, alteredBy, kindOf}
 use Rattle.definition.specs.Place.{stoppedByBase, isPure, probesOf}
-use Rattle.definition.specs.Answer.{Named, copyBeside, copyStart, namedInsertion, isInversion, namedReplacement, named, firstBaseRule, hasLastBaseRule, lastBaseRule, classNumber}
+use Rattle.definition.specs.Answer.{Named, copyBeside, copyStart, namedInsertion, isInversion, namedReplacement, named}
+use Rattle.definition.specs.Answer.{firstBaseRule, hasLastBaseRule, lastBaseRule, classNumber}
 use Rattle.definition.specs.Limits.{longestTarget, answerRoom}
 use Rattle.definition.specs.Verdict.{refused, answered, Answer, verdict, replacedAtOnce, answeredAtOnce, Verdict}
 use Rattle.definition.specs.Reply.{Reply, reply, refusalNumber}
@@ -82,7 +85,8 @@ near-last kind target n h = go (hasLastBaseRule kind && eqb (n .end) (length tar
     go true t = rw t (omega arith)
     go false t = rw t h
 
-near-at-once : (start end : ℕ) (target ref alt : List ℕ) (n : Named) → start < end → end ≤ length target → replacedAtOnce start end ref alt ≡ some n → Near target n
+near-at-once : (start end : ℕ) (target ref alt : List ℕ) (n : Named) → start < end → end ≤ length target
+    → replacedAtOnce start end ref alt ≡ some n → Near target n
 unfolding replacedAtOnce
 near-at-once start end target ref alt n o h e = go (sameBases ref alt) (eqb (length ref) 1 && eqb (length alt) 1) refl refl
   where

@@ -35,7 +35,8 @@ use Rattle.definition.proofs.Pieces.{Holds}
 use Rattle.demands.proofs.Substitution as Substitution
 
 -- the two requests that are answered at once
-pub identity : (target : List ℕ) (start end : ℕ) → start ≤ end → end ≤ length target → altered target (record { from = start; to = end; inserted = slice start end target }) ≡ target
+pub identity : (target : List ℕ) (start end : ℕ) → start ≤ end → end ≤ length target
+    → altered target (record { from = start; to = end; inserted = slice start end target }) ≡ target
 unfolding altered
 identity target start end h k = ap (λ (x : List ℕ). take start target ++ x) (slice-rest start end target h k) ∙ take-append-drop start target
 
@@ -64,7 +65,10 @@ module _ (direction : Direction) (kind : Kind) (piece : Piece) (target alt : Lis
     where
       go : (a b : Bool) → sameBases (slice start end target) alt ≡ a → (eqb (length (slice start end target)) 1 && eqb (length alt) 1) ≡ b
           → normal direction kind piece target (altered target c) (trimmed direction target c) ≡ some n
-      go true b t u = absurd (changed (subst (λ (x : List ℕ). altered target (record { from = start; to = end; inserted = x }) ≡ target) (same-equal (slice start end target) alt t) (identity target start end (omega arith) fits)))
+      go true b t u =
+          let unchanged = subst (λ (x : List ℕ). altered target (record { from = start; to = end; inserted = x }) ≡ target) (same-equal (slice start end target) alt t)
+          (identity target start end (omega arith) fits) in
+          absurd (changed unchanged)
       go false true t u =
           let f : some (Substitution.replacedBy start (slice start end target) alt) ≡ some n = rw (t, u) at e in
           let v = and-true (eqb (length (slice start end target)) 1) (eqb (length alt) 1) u in
@@ -130,7 +134,8 @@ at-once-denotes target alt start end n o fits e =
         let g : Substitution.replacedBy start (slice start end target) alt ≡ n = cc in
         let v = and-true (eqb (length (slice start end target)) 1) (eqb (length alt) 1) u in
         let w : end ≡ start + 1 = omega (arith, sym (length-slice start end target fits) ∙ eqb-true (length (slice start end target)) 1 (v .0)) in
-        subst (λ (x : Named). denoted target x ≡ altered target (record { from = start; to = end; inserted = alt })) g (replaced-denotes target (slice start end target) alt start end w)
+        subst (λ (x : Named). denoted target x ≡ altered target (record { from = start; to = end; inserted = alt })) g
+        (replaced-denotes target (slice start end target) alt start end w)
     go false false t u =
         let f : none ≡ some n = rw (t, u) at e in
         cc

@@ -6,7 +6,8 @@ use Rattle.definition.specs.declared.Direction.{Direction}
 use Rattle.definition.specs.declared.Bound.{Bound}
 use Rattle.definition.specs.declared.Bound.the-variants.{Absent, At, Negative}
 use Rattle.definition.specs.declared.Refusal.{Refusal}
-use Rattle.definition.specs.declared.Refusal.the-variants.{ExonNotFoundForStart, ExonNotFoundForEnd, ExonIntronBoundary, UtrExonBoundary, VariantSpanOutsideSequenceBounds}
+use Rattle.definition.specs.declared.Refusal.the-variants.{ExonNotFoundForStart, ExonNotFoundForEnd, ExonIntronBoundary}
+use Rattle.definition.specs.declared.Refusal.the-variants.{UtrExonBoundary, VariantSpanOutsideSequenceBounds}
 use Rattle.definition.specs.declared.PieceFound.{PieceFound}
 use Rattle.definition.specs.declared.PieceFound.the-variants.{InPiece, NoPiece}
 use Rattle.definition.specs.declared.Piece.{Piece}
@@ -26,7 +27,8 @@ use lib.Dec.{eqb, leb, ltb}
 use Rattle.definition.specs.Request.{Request, directionOf, kindOf, boundOf, startOf, endOf, editOf, changeOf}
 use Rattle.definition.specs.Piece.{piecesOf, exonHolding, exonPiece, cutAt, transcriptPiece, pieceFor}
 use Rattle.definition.specs.Answer.{Named, leavesTarget}
-use Rattle.definition.specs.Verdict.{Verdict, refused, answered, Row, firstGiven, verdict, refusedOr, answerIn, afterShortcuts, afterPiece, movedIn, normal, normalAt, namedAt, pieceOf, answeredOr16, Answer, answeredAtOnce, rows, answerMoved}
+use Rattle.definition.specs.Verdict.{Verdict, refused, answered, Row, firstGiven, verdict, refusedOr, answerIn, afterShortcuts, afterPiece, movedIn}
+use Rattle.definition.specs.Verdict.{normal, normalAt, namedAt, pieceOf, answeredOr16, Answer, answeredAtOnce, rows, answerMoved}
 use Rattle.definition.proofs.Tests.{and-false}
 use Rattle.demands.specs.Demand1.{missing, differ, onBothSides, pieceRows, spanRows, unlessAtOnce, table, noneGiven, FirstSaid, Demand1}
 
@@ -124,7 +126,9 @@ or-16 report direction kind piece target q reference alternative = go (leavesTar
     go true e = rw e
     go false e = rw e
 
-after-piece : (r : Request) (found : PieceFound) → refusalOf (afterPiece (directionOf (r .directionCode)) (kindOf (r .kindCode)) (r .target) (changeOf r) found) ≡ orElse (pieceRefusal found) (firstGiven (spanRows r found))
+after-piece : (r : Request) (found : PieceFound)
+    → refusalOf (afterPiece (directionOf (r .directionCode)) (kindOf (r .kindCode)) (r .target) (changeOf r) found)
+    ≡ orElse (pieceRefusal found) (firstGiven (spanRows r found))
 unfolding afterPiece spanRows movedIn normal normalAt
 after-piece r (NoPiece x) = refl
 after-piece r (InPiece p) =
@@ -135,7 +139,8 @@ after-piece r (InPiece p) =
     or-16 (answerMoved direction p (r .target) after t) direction (kindOf (r .kindCode)) p (r .target) q
     (slice q (q + t .referenceSize) (r .target)) (slice q (q + t .alternativeSize) after)
 
-at-once : (r : Request) (found : PieceFound) (o : Option Named) (later : List Row) → refusalOf (afterPiece (directionOf (r .directionCode)) (kindOf (r .kindCode)) (r .target) (changeOf r) found) ≡ firstGiven later
+at-once : (r : Request) (found : PieceFound) (o : Option Named) (later : List Row)
+    → refusalOf (afterPiece (directionOf (r .directionCode)) (kindOf (r .kindCode)) (r .target) (changeOf r) found) ≡ firstGiven later
     → refusalOf (afterShortcuts (directionOf (r .directionCode)) (kindOf (r .kindCode)) (r .target) (changeOf r) found o) ≡ firstGiven (unlessAtOnce o later)
 unfolding afterShortcuts unlessAtOnce
 at-once r found none later e = e

@@ -93,11 +93,13 @@ short-at direction kind piece target limit q ref alt n big r a e =
     (short-last kind target limit (firstBaseRule target (named direction piece target q ref alt))
     (fits-first target limit (named direction piece target q ref alt) big (short-named target limit direction piece q ref alt r a)))
 
-reference-size : (direction : Direction) (target : List ℕ) (c : Change) (limit : ℕ) → c .to - c .from ≤ limit → trimmed direction target c .referenceSize ≤ limit
+reference-size : (direction : Direction) (target : List ℕ) (c : Change) (limit : ℕ) → c .to - c .from ≤ limit
+    → trimmed direction target c .referenceSize ≤ limit
 unfolding trimmed trimmedBy referenceOf
 reference-size direction target c limit h = omega (arith, slice-short (c .from) (c .to) target)
 
-alternative-size : (direction : Direction) (target : List ℕ) (c : Change) (limit : ℕ) → length (c .inserted) ≤ limit → trimmed direction target c .alternativeSize ≤ limit
+alternative-size : (direction : Direction) (target : List ℕ) (c : Change) (limit : ℕ) → length (c .inserted) ≤ limit
+    → trimmed direction target c .alternativeSize ≤ limit
 unfolding trimmed trimmedBy
 alternative-size direction target c limit h = omega arith
 
@@ -127,7 +129,8 @@ spelled-short Replace r s a = omega (arith, s .rangeSize)
 spelled-short Invert r s a =
     omega (arith, slice-short (startOf r) (endOf r) (r .target), s .rangeSize, length-reverse-complement (slice (startOf r) (endOf r) (r .target)))
 
-at-once-short : (start end : ℕ) (ref alt : List ℕ) (limit : ℕ) (n : Named) → length ref ≤ limit → length alt ≤ limit → replacedAtOnce start end ref alt ≡ some n
+at-once-short : (start end : ℕ) (ref alt : List ℕ) (limit : ℕ) (n : Named) → length ref ≤ limit → length alt ≤ limit
+    → replacedAtOnce start end ref alt ≡ some n
     → Short limit n
 unfolding replacedAtOnce
 at-once-short start end ref alt limit n r a e = go (sameBases ref alt) (eqb (length ref) 1 && eqb (length alt) 1) refl refl

@@ -30,7 +30,8 @@ no-prefix : (x y : ℕ) → (x ≡ y → ⊥) → (lcp (x ∷ []) (y ∷ []) ≡
 unfolding lcs
 no-prefix x y d = (rw (ne-eqb x y d), rw (ne-eqb x y d))
 
-module _ (direction : Direction) (target : List ℕ) (at end x y : ℕ) (fits : end ≤ length target) (reads : slice at end target ≡ x ∷ []) (d : x ≡ y → ⊥) where
+module _ (direction : Direction) (target : List ℕ) (at end x y : ℕ) (fits : end ≤ length target)
+    (reads : slice at end target ≡ x ∷ []) (d : x ≡ y → ⊥) where
   abbrev one : Change
   one = record { from = at; to = end; inserted = y ∷ [] }
 

@@ -13,7 +13,8 @@ use Rattle.definition.specs.declared.Kind.the-variants.{Open, Transcript, Cross
 use Rattle.definition.specs.declared.Bound.{Bound}
 use Rattle.definition.specs.declared.Bound.the-variants.{Absent, At, Negative}
 use Rattle.definition.specs.declared.Refusal.{Refusal}
-use Rattle.definition.specs.declared.Refusal.the-variants.{ExonNotFoundForStart, ExonNotFoundForEnd, ExonIntronBoundary, UtrExonBoundary, VariantSpanOutsideSequenceBounds}
+use Rattle.definition.specs.declared.Refusal.the-variants.{ExonNotFoundForStart, ExonNotFoundForEnd, ExonIntronBoundary}
+use Rattle.definition.specs.declared.Refusal.the-variants.{UtrExonBoundary, VariantSpanOutsideSequenceBounds}
 use Rattle.definition.specs.declared.PieceFound.{PieceFound}
 use Rattle.definition.specs.declared.PieceFound.the-variants.{InPiece, NoPiece}
 use Rattle.definition.specs.declared.Exon.{Exon}

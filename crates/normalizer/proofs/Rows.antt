@@ -20,7 +20,9 @@ use Rattle.ranges.specs.Range.{orderedRange, rangeOf, rangeRead}
 use Rattle.ranges.proofs.Read.{range-read}
 use Rattle.definition.specs.Request.{Request, coordinateOf, kindOf, editOf, directionOf, boundOf, startOf, endOf, changeOf}
 use Rattle.definition.specs.Limits.{longestWindow, longestTarget}
-use Rattle.definition.specs.Verdict.{verdict, refused, rows, requestRows, targetRows, changeRows, badCode, badWindow, badTarget, badBase, outOfBounds, badInsertion, tooLong, badAllele, noRoom, badTables, answerIn, answeredAtOnce, pieceOf, refusedOr, sizeOutside, windowOutside}
+use Rattle.definition.specs.Verdict.{verdict, refused, rows, requestRows, targetRows, changeRows, badCode, badWindow, badTarget}
+use Rattle.definition.specs.Verdict.{badBase, outOfBounds, badInsertion, tooLong, badAllele, noRoom, badTables, answerIn}
+use Rattle.definition.specs.Verdict.{answeredAtOnce, pieceOf, refusedOr, sizeOutside, windowOutside}
 use Rattle.definition.proofs.Tests.{or-false}
 use Rattle.verdicts.specs.Passed.{rangeVerdict}
 
@@ -54,7 +56,8 @@ module _ (r : Request) where
               → rangeVerdict (r .target) (kindOf (r .kindCode)) (r .exonBytes) (boundOf (r .cdsStart)) (boundOf (r .cdsEnd)) (startOf r) (endOf r)
               (editOf (r .editCode)) (r .alternative) (directionOf (r .directionCode)) (r .referenceRoom) (r .alternativeRoom)
               ≡ verdict r
-          unfolding verdict rows requestRows targetRows changeRows badInsertion tooLong badAllele noRoom badTables answerIn answeredAtOnce pieceOf changeOf rangeVerdict
+          unfolding verdict rows requestRows targetRows changeRows badInsertion tooLong badAllele noRoom badTables answerIn answeredAtOnce pieceOf
+              changeOf rangeVerdict
           past-row-5 e = rw (e₁, e₂, e₃, e₄, e)
 
 -- what the rows that were passed say
@@ -99,7 +102,9 @@ ordered-facts from to size x y e = go (leb (to .0) (from .0)) (ltb size (to .0))
         let h : Within from to ≡ Within x y = rw (f, g) at e in
         let i : from ≡ x = cc in
         let j : to ≡ y = cc in
-        (omega (arith, leb-false (to .0) (from .0) f, ap (λ (w : Zero). w .0) i, ap (λ (w : Zero). w .0) j), omega (arith, ltb-false size (to .0) g, ap (λ (w : Zero). w .0) j))
+        let k : from .0 ≡ x .0 = ap (λ (w : Zero). w .0) i in
+        let l : to .0 ≡ y .0 = ap (λ (w : Zero). w .0) j in
+        (omega (arith, leb-false (to .0) (from .0) f), omega (arith, ltb-false size (to .0) g))
 
 range-facts : (first last : Coordinate) (size : ℕ) (x y : Zero) → rangeOf first last size ≡ Within x y → (x .0 < y .0) × (y .0 ≤ size)
 range-facts (Natural from) (Natural to) size x y e = ordered-facts from to size x y e

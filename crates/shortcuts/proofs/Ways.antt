@@ -21,16 +21,17 @@ use Rattle.shortcuts.specs.declared.Way.{Way}
 use Rattle.shortcuts.specs.declared.Way.the-variants.{Same, Single, Later}
 use Rattle.shortcuts.specs.Ways.{replacedWay, wayOf, inPlace}
 
+-- the test over the lent part is one over the reference
+pub tested : (target alternative : List ℕ) (start end : ℕ) {b : Bool} → b ≡ sameBases (take (end - start) (drop start target)) alternative
+    → b ≡ sameBases (slice start end target) alternative
+tested target alternative start end e = e ∙ ap (λ (x : List ℕ). sameBases x alternative) (lent-part start end target)
+
 module _ (target alternative : List ℕ) (start end : ℕ) (ordered : start < end) (fits : end ≤ length target) where
   abbrev reference : List ℕ
   reference = slice start end target
 
   size : length reference ≡ end - start
   size = length-slice start end target fits
-
-  -- the test over the lent part is one over the reference
-  pub tested : (b : Bool) → b ≡ sameBases (take (end - start) (drop start target)) alternative → b ≡ sameBases reference alternative
-  tested b e = e ∙ ap (λ (x : List ℕ). sameBases x alternative) (lent-part start end target)
 
   pub way-same : sameBases reference alternative ≡ true → Same ≡ replacedWay reference alternative
   unfolding replacedWay

@@ -8,24 +8,24 @@ use Rattle.definition.specs.declared.Direction.the-variants.{Rightward, Leftwar
 use Rattle.definition.specs.Prefix.{lcp, lcs}
 use Rattle.definition.specs.Change.{trimmedFront, trimmedEnd}
 
-module _ (part reference alternative rest other : List ℕ) (front back : ℕ) (lent : part ≡ reference) where
-  pub front-first : front ≡ lcp part alternative → front ≡ trimmedFront Rightward reference alternative
+module _ {part reference : List ℕ} (lent : part ≡ reference) (alternative : List ℕ) where
+  pub front-first : {front : ℕ} → front ≡ lcp part alternative → front ≡ trimmedFront Rightward reference alternative
   unfolding trimmedFront
   front-first e = e ∙ ap (λ (x : List ℕ). lcp x alternative) lent
 
-  pub back-second : front ≡ lcp part alternative → rest ≡ drop front part → other ≡ drop front alternative → back ≡ lcs rest other
-      → back ≡ trimmedEnd Rightward reference alternative
+  pub back-second : {front back : ℕ} {rest other : List ℕ} → front ≡ lcp part alternative → rest ≡ drop front part → other ≡ drop front alternative
+      → back ≡ lcs rest other → back ≡ trimmedEnd Rightward reference alternative
   unfolding trimmedEnd
   back-second e r o b =
       b ∙ ap₂ lcs (r ∙ ap₂ (λ (n : ℕ) (x : List ℕ). drop n x) e lent) (o ∙ ap (λ (n : ℕ). drop n alternative) e)
       ∙ ap (λ (x : List ℕ). lcs (drop (lcp x alternative) reference) (drop (lcp x alternative) alternative)) lent
 
-  pub back-first : back ≡ lcs part alternative → back ≡ trimmedEnd Leftward reference alternative
+  pub back-first : {back : ℕ} → back ≡ lcs part alternative → back ≡ trimmedEnd Leftward reference alternative
   unfolding trimmedEnd
   back-first e = e ∙ ap (λ (x : List ℕ). lcs x alternative) lent
 
-  pub front-second : back ≡ lcs part alternative → rest ≡ take (length part - back) part → other ≡ take (length alternative - back) alternative
-      → front ≡ lcp rest other → front ≡ trimmedFront Leftward reference alternative
+  pub front-second : {front back : ℕ} {rest other : List ℕ} → back ≡ lcs part alternative → rest ≡ take (length part - back) part
+      → other ≡ take (length alternative - back) alternative → front ≡ lcp rest other → front ≡ trimmedFront Leftward reference alternative
   unfolding trimmedFront
   front-second e r o f =
       f ∙ ap₂ lcp (r ∙ ap₂ (λ (n : ℕ) (x : List ℕ). take (length x - n) x) e lent) (o ∙ ap (λ (n : ℕ). take (length alternative - n) alternative) e)

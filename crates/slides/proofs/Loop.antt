@@ -72,7 +72,8 @@ module _ (piece : Piece) (target : List ℕ) (start : ℕ) (r₀ a₀ : Allele) 
           alternative = record { bytes = a .bytes; head = ah; count = a .count };
         })
     turned r a rh ah place differing probes t edge e =
-        let d = ended direction piece target after (r₀ .count) (a₀ .count) start (window (r .bytes) rh (r₀ .count)) (window (a .bytes) ah (a₀ .count)) place differing (t .sliding) edge in
+        let d = ended direction piece target after (r₀ .count) (a₀ .count) start (window (r .bytes) rh (r₀ .count)) (window (a .bytes) ah (a₀ .count)) place differing
+        (t .sliding) edge in
         record {
           place = d .0;
           probes = e ∙ ap (λ (n : ℕ). (place - start) + (start - place) + n) (d .1);

@@ -57,7 +57,8 @@ module _ (target after : List ℕ) where
           ∙ ap (λ (n : ℕ). slice q n after) e
 
       -- the front that both then share: as far as the two sequences are alike, and no further than the window
-      pub shared-right : lcp (slice q (q + extra) target ++ slice (q + extra) (q + extra + w) target) (slice q (q + added) after ++ slice (q + extra) (q + extra + w) target)
+      pub shared-right : lcp (slice q (q + extra) target ++ slice (q + extra) (q + extra + w) target)
+          (slice q (q + added) after ++ slice (q + extra) (q + extra + w) target)
           ≡ min (lcp target after - q) w
       shared-right =
           ap₂ lcp reference-and-chunk alternative-and-chunk
@@ -90,7 +91,8 @@ module _ (target after : List ℕ) where
           let x : q - w ≡ q + extra - (extra + w) = omega arith in
           let y : q - w ≡ q + added - (added + w) = omega arith in
           ap₂ lcs (chunk-and-reference ∙ ap (λ (m : ℕ). slice m (q + extra) target) x) (chunk-and-alternative ∙ ap (λ (m : ℕ). slice m (q + added) after) y)
-          ∙ lcs-parts target after (q + extra) (q + added) (shorter - q) (extra + w) (added + w) (whole (length target) (length after) below) (whole′ (length target) (length after) below) (s .behind) (omega arith) (omega arith)
+          ∙ lcs-parts target after (q + extra) (q + added) (shorter - q) (extra + w) (added + w)
+          (whole (length target) (length after) below) (whole′ (length target) (length after) below) (s .behind) (omega arith) (omega arith)
           ∙ least (lcs target after - (shorter - q))
         where
           whole : (n n′ : ℕ) → q ≤ min n n′ → q + (n - n′) + (min n n′ - q) ≡ n

@@ -10,7 +10,8 @@ use Rattle.definition.specs.Prefix.{lcp, lcs}
 use Rattle.definition.proofs.Prefixes.{lcp-le-left, lcp-le-right}
 use Rattle.windows_right.specs.Moves.{WindowedRight}
 use Rattle.windows_left.specs.Moves.{WindowedLeft}
-use Rattle.slides.proofs.Standing.{Stands, extra, added, shorter, shared-right, reference-onward, alternative-onward, shared-left, reference-back, alternative-back}
+use Rattle.slides.proofs.Standing.{Stands, extra, added, shorter, shared-right, reference-onward}
+use Rattle.slides.proofs.Standing.{alternative-onward, shared-left, reference-back, alternative-back}
 
 module _ (target after : List ℕ) where
   -- a change of k reference bases and m alternative ones at q, with its alleles there

@@ -56,7 +56,8 @@ module _ (direction : Direction) (kind : Kind) (piece : Piece) (target : List �
       ≡ normal direction kind piece target (altered target c) t
   unfolding normal normalAt
   named-there =
-      ap₂ (λ (n : ℕ) (x : List ℕ). namedAt direction kind piece target (s .place .0) (slice (s .place .0) (s .place .0 + n) target) x) (st .reference .count) (st .alternative .bases)
+      ap₂ (λ (n : ℕ) (x : List ℕ). namedAt direction kind piece target (s .place .0) (slice (s .place .0) (s .place .0 + n) target) x)
+      (st .reference .count) (st .alternative .bases)
       ∙ ap (λ (n : ℕ). namedAt direction kind piece target n (slice n (n + t .referenceSize) target) (slice n (n + t .alternativeSize) (altered target c))) (st .place)
 
   pub moved-verdict :

@@ -37,12 +37,13 @@ same-length-2 c = search needs
 
 returns : tie.Need-returns
 returns c =
-    let a = c .before .before .before .before .before .before .before .before .before .before .before .before .before .before .args in
+    let s = c .before .before .before .before .before .before .before .before .before .before .before .before .before .before in
+    let a = s .args in
     let n = a .called in
     met-called (a .target .now) (window (a .alternative .now) (a .head) (n .«alternative_size»)) n (a .probes)
     (c .before .before .write-anchored .result)
     (a .reference-out .now) _ (a .alternative-out .now) _
-    (c .before .before .before .before .before .before .before .before .before .before .before .before .before .before .pre .inTarget) (window-length (a .alternative .now) (a .head) (n .«alternative_size»))
+    (s .pre .inTarget) (window-length (a .alternative .now) (a .head) (n .«alternative_size»))
     (c .before .before .before .before .before .before .write-part .ensures
     ∙ ap (λ (part : List ℕ). written part (a .reference-out .now))
     (lent-part (n .«reference_start» .0) (n .«reference_start» .0 + n .«reference_size») (a .target .now)))

@@ -1,7 +1,7 @@
 -- `moves::move_trimmed` meets its contract: what is left of the change lies in target and insertion, and it stays or is handed to a slide. Assumes nothing.
 use mathlib.Core.Logic.{inl, inr, ⊎-elim}
 use mathlib.Core.Path.{_≡_}
-use Prim.Native.Nat.{ℕ, _+_, _≤_, min}
+use Prim.Native.Nat.{ℕ, _≤_, min}
 use native.Mathlib.Omega.{arith}
 use borrow.Author.Needs.{needs}
 use Rattle.definition.proofs.Places.{from-edge}

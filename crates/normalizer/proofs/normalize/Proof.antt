@@ -93,8 +93,8 @@ normalize-range-requires c κs =
     let after2 = after3 .before .before in
     let s = after2 .before .before .before .before .before .before .before .before .before in
     let a = s .args in
-    let r = asked (a .target .now) (a .kind) (a .exons .now) (a .cds-start) (a .cds-end) (a .start) (a .end) (a .edit) (a .alternative .now) (a .direction) (a .window)
-    (length (now (a .reference-out))) (length (now (a .alternative-out))) in
+    let r = asked (a .target .now) (a .kind) (a .exons .now) (a .cds-start) (a .cds-end) (a .start) (a .end) (a .edit) (a .alternative .now)
+    (a .direction) (a .window) (length (now (a .reference-out))) (length (now (a .alternative-out))) in
     let read = rw (toZ-ofZ w32 (a .start) (s .fits .start), toZ-ofZ w32 (a .end) (s .fits .end)) at (found .before .before .range-within .ensures) in
     let ordered = read-ordered r _ read _ _ (found .read .given .1) in
     let window = window-inside (a .window) (sym (after2 .before .bad-window .ensures) ∙ after2 .if2 .left) in
@@ -109,8 +109,8 @@ returns-5 c =
     let after1 = after2 .before .before in
     let s = after1 .before .before .before .before .before .before .before in
     let a = s .args in
-    let r = asked (a .target .now) (a .kind) (a .exons .now) (a .cds-start) (a .cds-end) (a .start) (a .end) (a .edit) (a .alternative .now) (a .direction) (a .window)
-    (length (now (a .reference-out))) (length (now (a .alternative-out))) in
+    let r = asked (a .target .now) (a .kind) (a .exons .now) (a .cds-start) (a .cds-end) (a .start) (a .end) (a .edit) (a .alternative .now)
+    (a .direction) (a .window) (length (now (a .reference-out))) (length (now (a .alternative-out))) in
     let codes = sym (after1 .before .bad-code .ensures) ∙ after1 .if1 .left in
     let window = sym (after2 .before .bad-window .ensures) ∙ after2 .if2 .left in
     let size = sym (after3 .before .bad-target .ensures) ∙ after3 .if3 .left in
@@ -135,8 +135,8 @@ returns-6 c =
     let after1 = after2 .before .before in
     let s = after1 .before .before .before .before .before .before .before in
     let a = s .args in
-    let r = asked (a .target .now) (a .kind) (a .exons .now) (a .cds-start) (a .cds-end) (a .start) (a .end) (a .edit) (a .alternative .now) (a .direction) (a .window)
-    (length (now (a .reference-out))) (length (now (a .alternative-out))) in
+    let r = asked (a .target .now) (a .kind) (a .exons .now) (a .cds-start) (a .cds-end) (a .start) (a .end) (a .edit) (a .alternative .now)
+    (a .direction) (a .window) (length (now (a .reference-out))) (length (now (a .alternative-out))) in
     let codes = sym (after1 .before .bad-code .ensures) ∙ after1 .if1 .left in
     let window = sym (after2 .before .bad-window .ensures) ∙ after2 .if2 .left in
     let size = sym (after3 .before .bad-target .ensures) ∙ after3 .if3 .left in

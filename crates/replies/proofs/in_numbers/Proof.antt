@@ -20,27 +20,32 @@ class-number-requires c κs = search needs
 
 cast-t8 : tie.Need-cast-t8
 cast-t8 c =
-    let small : Small32 (c .before .before .before .outcome2 .given .0 .0) = rw (c .before .before .before .outcome2 .given .1) at (c .before .before .before .before .before .pre) in
+    let named = c .before .before .before in
+    let small : Small32 (named .outcome2 .given .0 .0) = rw (named .outcome2 .given .1) at (named .before .before .pre) in
     omega (arith, small .start)
 
 cast-t9 : tie.Need-cast-t9
 cast-t9 c =
-    let small : Small32 (c .before .before .before .before .outcome2 .given .0 .0) = rw (c .before .before .before .before .outcome2 .given .1) at (c .before .before .before .before .before .before .pre) in
+    let named = c .before .before .before .before in
+    let small : Small32 (named .outcome2 .given .0 .0) = rw (named .outcome2 .given .1) at (named .before .before .pre) in
     omega (arith, small .end)
 
 cast-t10 : tie.Need-cast-t10
 cast-t10 c =
-    let small : Small32 (c .before .before .before .before .before .outcome2 .given .0 .0) = rw (c .before .before .before .before .before .outcome2 .given .1) at (c .before .before .before .before .before .before .before .pre) in
+    let named = c .before .before .before .before .before in
+    let small : Small32 (named .outcome2 .given .0 .0) = rw (named .outcome2 .given .1) at (named .before .before .pre) in
     omega (arith, small .probes)
 
 cast-t11 : tie.Need-cast-t11
 cast-t11 c =
-    let small : Small32 (c .before .before .before .before .before .before .outcome2 .given .0 .0) = rw (c .before .before .before .before .before .before .outcome2 .given .1) at (c .before .before .before .before .before .before .before .before .pre) in
+    let named = c .before .before .before .before .before .before in
+    let small : Small32 (named .outcome2 .given .0 .0) = rw (named .outcome2 .given .1) at (named .before .before .pre) in
     omega (arith, small .reference)
 
 cast-t12 : tie.Need-cast-t12
 cast-t12 c =
-    let small : Small32 (c .before .before .before .before .before .before .before .outcome2 .given .0 .0) = rw (c .before .before .before .before .before .before .before .outcome2 .given .1) at (c .before .before .before .before .before .before .before .before .before .pre) in
+    let named = c .before .before .before .before .before .before .before in
+    let small : Small32 (named .outcome2 .given .0 .0) = rw (named .outcome2 .given .1) at (named .before .before .pre) in
     omega (arith, small .alternative)
 
 returns : tie.Need-returns
@@ -49,7 +54,9 @@ returns c = rw (c .before .before .outcome .given .1, c .refusal-number .ensures
 
 returns-2 : tie.Need-returns-2
 unfolding answerOf
-returns-2 c = rw (c .before .before .before .before .before .before .before .outcome2 .given .1, c .before .before .before .before .before .class-number .ensures) refl
+returns-2 c =
+    let numbered = c .before .before .before .before .before in
+    rw (numbered .before .before .outcome2 .given .1, numbered .class-number .ensures) refl
 
 pub in-numbers-spec : {M : Type 1} → statement M
 in-numbers-spec =

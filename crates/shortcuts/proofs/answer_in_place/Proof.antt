@@ -38,7 +38,8 @@ returns : tie.Need-returns
 returns c =
     let s = c .before .before .before .before .before .before .before .before .before .before .before .before .before .before .before in
     in-place-met (s .args .class) (s .args .target .now) (s .args .start .0) (s .args .end .0) (s .args .alternative .now) (s .pre .0 .0) (s .pre .0 .1)
-    _ _ (c .before .one-based .ensures) (c .before-gap .ensures) _ _ _ _ (c .before .before .before .before .before .before .before .before .write-part .ensures) (c .before .before .before .before .write-part2 .ensures)
+    _ _ (c .before .one-based .ensures) (c .before-gap .ensures) _ _ _ _
+    (c .before .before .before .before .before .before .before .before .write-part .ensures) (c .before .before .before .before .write-part2 .ensures)
 
 pub answer-in-place-spec : {M : Type 1} → statement M
 answer-in-place-spec =

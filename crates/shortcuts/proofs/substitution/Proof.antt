@@ -19,26 +19,38 @@ same-bases-requires c κs = search needs
 
 returns : tie.Need-returns
 returns c =
-    let s = c .before .before .before .before .before in
-    way-same (s .args .target .now) (s .args .alternative .now) (s .args .start .0) (s .args .end .0) (s .pre .0) (s .pre .1) (sym (tested (s .args .target .now) (s .args .alternative .now) (s .args .start .0) (s .args .end .0) (s .pre .0) (s .pre .1) _ (c .before .same-bases .ensures)) ∙ c .if1 .taken)
+    let compared = c .before in
+    let s = compared .before .before .before .before in
+    let a = s .args in
+    let same = sym (tested (a .target .now) (a .alternative .now) (a .start .0) (a .end .0) (compared .same-bases .ensures)) ∙ c .if1 .taken in
+    way-same (a .target .now) (a .alternative .now) (a .start .0) (a .end .0) (s .pre .0) (s .pre .1) same
 
 sub-if2 : tie.Need-sub-if2
 sub-if2 c = search needs
 
 returns-2 : tie.Need-returns-2
 returns-2 c =
-    let s = c .before .before .before .before .before .before in
-    way-long (s .args .target .now) (s .args .alternative .now) (s .args .start .0) (s .args .end .0) (s .pre .0) (s .pre .1) (sym (tested (s .args .target .now) (s .args .alternative .now) (s .args .start .0) (s .args .end .0) (s .pre .0) (s .pre .1) _ (c .before .before .same-bases .ensures)) ∙ c .before .if1 .left) (c .if2 .taken)
+    let compared = c .before .before in
+    let s = compared .before .before .before .before in
+    let a = s .args in
+    let other = sym (tested (a .target .now) (a .alternative .now) (a .start .0) (a .end .0) (compared .same-bases .ensures)) ∙ c .before .if1 .left in
+    way-long (a .target .now) (a .alternative .now) (a .start .0) (a .end .0) (s .pre .0) (s .pre .1) other (c .if2 .taken)
 
 returns-3 : tie.Need-returns-3
 returns-3 c =
-    let s = c .before .before .before .before .before .before .before in
-    way-many (s .args .target .now) (s .args .alternative .now) (s .args .start .0) (s .args .end .0) (s .pre .0) (s .pre .1) (sym (tested (s .args .target .now) (s .args .alternative .now) (s .args .start .0) (s .args .end .0) (s .pre .0) (s .pre .1) _ (c .before .before .before .same-bases .ensures)) ∙ c .before .before .if1 .left) (c .before .if2 .left) (c .if3 .taken)
+    let compared = c .before .before .before in
+    let s = compared .before .before .before .before in
+    let a = s .args in
+    let other = sym (tested (a .target .now) (a .alternative .now) (a .start .0) (a .end .0) (compared .same-bases .ensures)) ∙ c .before .before .if1 .left in
+    way-many (a .target .now) (a .alternative .now) (a .start .0) (a .end .0) (s .pre .0) (s .pre .1) other (c .before .if2 .left) (c .if3 .taken)
 
 returns-4 : tie.Need-returns-4
 returns-4 c =
-    let s = c .before .before .before .before .before .before .before in
-    way-single (s .args .target .now) (s .args .alternative .now) (s .args .start .0) (s .args .end .0) (s .pre .0) (s .pre .1) (sym (tested (s .args .target .now) (s .args .alternative .now) (s .args .start .0) (s .args .end .0) (s .pre .0) (s .pre .1) _ (c .before .before .before .same-bases .ensures)) ∙ c .before .before .if1 .left) (c .before .if2 .left) (c .if3 .left)
+    let compared = c .before .before .before in
+    let s = compared .before .before .before .before in
+    let a = s .args in
+    let other = sym (tested (a .target .now) (a .alternative .now) (a .start .0) (a .end .0) (compared .same-bases .ensures)) ∙ c .before .before .if1 .left in
+    way-single (a .target .now) (a .alternative .now) (a .start .0) (a .end .0) (s .pre .0) (s .pre .1) other (c .before .if2 .left) (c .if3 .left)
 
 pub substitution-spec : {M : Type 1} → statement M
 substitution-spec =

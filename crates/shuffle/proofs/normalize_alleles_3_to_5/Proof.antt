@@ -2,8 +2,6 @@
 use Prim.Native.Nat.{_-_}
 use native.Mathlib.Omega.{arith}
 use lib.ListN.{take, drop}
-use lib.Seq.{slice}
-use denote.Ref.{now}
 use Rattle.definition.proofs.Prefixes.{lcs-le-left, lcs-le-right}
 use Rattle.definition.proofs.Places.{from-edge}
 use Rattle.definition.proofs.Parts.{lent-part}
@@ -28,27 +26,27 @@ trim-common-suffixes-requires c κs = search needs
 
 before-last-requires : tie.Need-before-last-requires
 before-last-requires c κs =
-    let s = c .before .before .before .before in
-    omega (arith, c .trim-common-suffixes .ensures, lcs-le-left (take (s .args .to .0 - s .args .from .0) (drop (s .args .from .0) (s .args .target .now))) (s .args .inserted .now))
+    let a = c .before .before .before .before .args in
+    let part = take (a .to .0 - a .from .0) (drop (a .from .0) (a .target .now)) in
+    omega (arith, c .trim-common-suffixes .ensures, lcs-le-left part (a .inserted .now))
 
 before-last-requires-2 : tie.Need-before-last-requires-2
 before-last-requires-2 c κs =
-    let s = c .before .before .before .before .before in
-    omega (arith, c .before .trim-common-suffixes .ensures, lcs-le-right (take (s .args .to .0 - s .args .from .0) (drop (s .args .from .0) (s .args .target .now))) (s .args .inserted .now))
+    let a = c .before .before .before .before .before .args in
+    let part = take (a .to .0 - a .from .0) (drop (a .from .0) (a .target .now)) in
+    omega (arith, c .before .trim-common-suffixes .ensures, lcs-le-right part (a .inserted .now))
 
 trim-common-prefixes-requires : tie.Need-trim-common-prefixes-requires
 trim-common-prefixes-requires c κs = search needs
 
 move-trimmed-requires : tie.Need-move-trimmed-requires
 move-trimmed-requires c κs =
-    let s = c .before .before .before .before .before .before .before in
-    let lent = lent-part (s .args .from .0) (s .args .to .0) (s .args .target .now) in (
-      s .pre,
-      (
-        front-second (take (s .args .to .0 - s .args .from .0) (drop (s .args .from .0) (s .args .target .now))) (slice (s .args .from .0) (s .args .to .0) (s .args .target .now)) (s .args .inserted .now) (now (c .before .before .before-last .result)) (now (c .before .before-last2 .result)) (c .trim-common-prefixes .result) (c .before .before .before .trim-common-suffixes .result) lent (c .before .before .before .trim-common-suffixes .ensures) (c .before .before .before-last .ensures) (c .before .before-last2 .ensures) (c .trim-common-prefixes .ensures),
-        back-first (take (s .args .to .0 - s .args .from .0) (drop (s .args .from .0) (s .args .target .now))) (slice (s .args .from .0) (s .args .to .0) (s .args .target .now)) (s .args .inserted .now) (now (c .before .before .before-last .result)) (now (c .before .before-last2 .result)) (c .trim-common-prefixes .result) (c .before .before .before .trim-common-suffixes .result) lent (c .before .before .before .trim-common-suffixes .ensures),
-      ),
-    )
+    let counted = c .before .before .before in
+    let s = counted .before .before .before .before in
+    let lent = lent-part (s .args .from .0) (s .args .to .0) (s .args .target .now) in
+    let back = counted .trim-common-suffixes .ensures in
+    let front = front-second lent _ back (c .before .before .before-last .ensures) (c .before .before-last2 .ensures) (c .trim-common-prefixes .ensures) in
+    (s .pre, (front, back-first lent _ back))
 
 returns : tie.Need-returns
 returns c = search needs

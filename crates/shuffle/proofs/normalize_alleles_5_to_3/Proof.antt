@@ -2,8 +2,6 @@
 use Prim.Native.Nat.{_-_}
 use native.Mathlib.Omega.{arith}
 use lib.ListN.{take, drop}
-use lib.Seq.{slice}
-use denote.Ref.{now}
 use Rattle.definition.proofs.Prefixes.{lcp-le-left, lcp-le-right}
 use Rattle.definition.proofs.Places.{from-edge}
 use Rattle.definition.proofs.Parts.{lent-part}
@@ -28,27 +26,27 @@ trim-common-prefixes-requires c κs = search needs
 
 after-requires : tie.Need-after-requires
 after-requires c κs =
-    let s = c .before .before .before .before in
-    omega (arith, c .trim-common-prefixes .ensures, lcp-le-left (take (s .args .to .0 - s .args .from .0) (drop (s .args .from .0) (s .args .target .now))) (s .args .inserted .now))
+    let a = c .before .before .before .before .args in
+    let part = take (a .to .0 - a .from .0) (drop (a .from .0) (a .target .now)) in
+    omega (arith, c .trim-common-prefixes .ensures, lcp-le-left part (a .inserted .now))
 
 after-requires-2 : tie.Need-after-requires-2
 after-requires-2 c κs =
-    let s = c .before .before .before .before .before in
-    omega (arith, c .before .trim-common-prefixes .ensures, lcp-le-right (take (s .args .to .0 - s .args .from .0) (drop (s .args .from .0) (s .args .target .now))) (s .args .inserted .now))
+    let a = c .before .before .before .before .before .args in
+    let part = take (a .to .0 - a .from .0) (drop (a .from .0) (a .target .now)) in
+    omega (arith, c .before .trim-common-prefixes .ensures, lcp-le-right part (a .inserted .now))
 
 trim-common-suffixes-requires : tie.Need-trim-common-suffixes-requires
 trim-common-suffixes-requires c κs = search needs
 
 move-trimmed-requires : tie.Need-move-trimmed-requires
 move-trimmed-requires c κs =
-    let s = c .before .before .before .before .before .before .before in
-    let lent = lent-part (s .args .from .0) (s .args .to .0) (s .args .target .now) in (
-      s .pre,
-      (
-        front-first (take (s .args .to .0 - s .args .from .0) (drop (s .args .from .0) (s .args .target .now))) (slice (s .args .from .0) (s .args .to .0) (s .args .target .now)) (s .args .inserted .now) (now (c .before .before .after .result)) (now (c .before .after2 .result)) (c .before .before .before .trim-common-prefixes .result) (c .trim-common-suffixes .result) lent (c .before .before .before .trim-common-prefixes .ensures),
-        back-second (take (s .args .to .0 - s .args .from .0) (drop (s .args .from .0) (s .args .target .now))) (slice (s .args .from .0) (s .args .to .0) (s .args .target .now)) (s .args .inserted .now) (now (c .before .before .after .result)) (now (c .before .after2 .result)) (c .before .before .before .trim-common-prefixes .result) (c .trim-common-suffixes .result) lent (c .before .before .before .trim-common-prefixes .ensures) (c .before .before .after .ensures) (c .before .after2 .ensures) (c .trim-common-suffixes .ensures),
-      ),
-    )
+    let counted = c .before .before .before in
+    let s = counted .before .before .before .before in
+    let lent = lent-part (s .args .from .0) (s .args .to .0) (s .args .target .now) in
+    let front = counted .trim-common-prefixes .ensures in
+    let back = back-second lent _ front (c .before .before .after .ensures) (c .before .after2 .ensures) (c .trim-common-suffixes .ensures) in
+    (s .pre, (front-first lent _ front, back))
 
 returns : tie.Need-returns
 returns c = search needs

@@ -23,7 +23,8 @@ abbrev μ-loop : tie.MeasureT-loop
 loop-holds : tie.Need-loop-holds Inv-loop μ-loop
 loop-holds c =
     let s = c .before in
-    turning-starts (pieceFrom (s .args .edge) (length (s .args .target .now))) (s .args .target .now) (s .args .start) (s .args .reference) (s .args .alternative) (s .args .most) (s .pre) Leftward
+    let a = s .args in
+    turning-starts (pieceFrom (a .edge) (length (a .target .now))) (a .target .now) (a .start) (a .reference) (a .alternative) (a .most) (s .pre) Leftward
 
 normalize-alleles-left-inner-requires :
     tie.Need-normalize-alleles-left-inner-requires Inv-loop μ-loop
@@ -98,8 +99,9 @@ add-t26 c = omega (arith, left-count (c .before .loop .inv .sliding), c .before 
 returns : tie.Need-returns Inv-loop μ-loop
 returns c =
     let s = c .before .before .before in
+    let a = s .args in
     let l = c .before .loop in
-    turned (pieceFrom (s .args .edge) (length (s .args .target .now))) (s .args .target .now) (s .args .start) (s .args .reference) (s .args .alternative) (s .args .most) (s .pre) Leftward
+    turned (pieceFrom (a .edge) (length (a .target .now))) (a .target .now) (a .start) (a .reference) (a .alternative) (a .most) (s .pre) Leftward
     (l .r) (l .a) (l .rh) (l .ah) (l .place) (l .differing) _ (l .inv)
     (λ z. ⊎-elim (λ w. ltb-false _ _ (w .1 .left)) (λ w. absurd (w .left z)) (c .loop-test .came))
     (omega (arith, l .inv .sliding .onward))

@@ -23,7 +23,8 @@ abbrev μ-loop : tie.MeasureT-loop
 loop-holds : tie.Need-loop-holds Inv-loop μ-loop
 loop-holds c =
     let s = c .before in
-    turning-starts (pieceFrom 0 (s .args .edge)) (s .args .target .now) (s .args .start) (s .args .reference) (s .args .alternative) (s .args .most) (s .pre .1) Rightward
+    let a = s .args in
+    turning-starts (pieceFrom 0 (a .edge)) (a .target .now) (a .start) (a .reference) (a .alternative) (a .most) (s .pre .1) Rightward
 
 add-if1 : tie.Need-add-if1 Inv-loop μ-loop
 add-if1 c =
@@ -113,7 +114,8 @@ returns : tie.Need-returns Inv-loop μ-loop
 returns c =
     let s = c .before .before .before in
     let l = c .before .loop in
-    turned (pieceFrom 0 (s .args .edge)) (s .args .target .now) (s .args .start) (s .args .reference) (s .args .alternative) (s .args .most) (s .pre .1) Rightward
+    let a = s .args in
+    turned (pieceFrom 0 (a .edge)) (a .target .now) (a .start) (a .reference) (a .alternative) (a .most) (s .pre .1) Rightward
     (l .r) (l .a) (l .rh) (l .ah) (l .place) (l .differing) _ (l .inv)
     (λ z. ⊎-elim
     (λ w. let shut : s .args .edge ≤ l .place + s .args .reference .count = ltb-false _ _ (w .1 .left) in

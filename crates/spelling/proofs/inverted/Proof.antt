@@ -34,17 +34,19 @@ array-share-prefix-buffer c = search needs
 
 slice-aggregate-moved : tie.Need-slice-aggregate-moved
 slice-aggregate-moved c =
-    let s = c .before .before .before .before .before .before .before .before in
+    let a = c .before .before .before .before .before .before .before .before .args in
     let v = c .before .before .revcomp in
-    v .ensures .0 ∙ sym (length-reverse-complement (take (s .args .end .0 - s .args .start .0) (drop (s .args .start .0) (s .args .target .now)))) ∙ sym (ap length (inverted-back (take (s .args .end .0 - s .args .start .0) (drop (s .args .start .0) (s .args .target .now))) _ _ (v .result) (v .ensures .0) (v .ensures .1)))
+    let part = take (a .end .0 - a .start .0) (drop (a .start .0) (a .target .now)) in
+    v .ensures .0 ∙ sym (length-reverse-complement part) ∙ sym (ap length (inverted-back part _ _ (v .result) (v .ensures .0) (v .ensures .1)))
 
 moved-requires : tie.Need-moved-requires
 unfolding spelled
 moved-requires c κs =
     let s = c .before .before .before .before .before .before .before .before .before .before in
+    let a = s .args in
     let v = c .before .before .before .before .revcomp in
-    let e = inverted-back (take (s .args .end .0 - s .args .start .0) (drop (s .args .start .0) (s .args .target .now))) _ _ (v .result) (v .ensures .0) (v .ensures .1) ∙ ap reverseComplement (lent-part (s .args .start .0) (s .args .end .0) (s .args .target .now)) in (
-      rw e (asks (s .args .piece) (s .args .target .now) (s .args .start .0) (s .args .end .0) (s .args .window) (s .pre .0) Invert [] (reads-nothing Invert (s .args .start .0) (s .args .end .0) refl)),
+    let back = inverted-back _ _ _ (v .result) (v .ensures .0) (v .ensures .1) ∙ ap reverseComplement (lent-part (a .start .0) (a .end .0) (a .target .now)) in (
+      rw back (asks (a .piece) (a .target .now) (a .start .0) (a .end .0) (a .window) (s .pre .0) Invert [] (reads-nothing Invert (a .start .0) (a .end .0) refl)),
       ((omega (arith, s .pre .0 .ordered, s .pre .0 .inTarget), s .pre .0 .short), s .pre .1),
     )
 
@@ -57,10 +59,11 @@ same-length-2 c = search needs
 returns : tie.Need-returns
 unfolding spelled
 returns c =
-    let s = c .before .before .before .before .before .before .before .before .before .before .before .before .before .before .before in
-    let v = c .before .before .before .before .before .before .before .before .before .revcomp in
-    let e = inverted-back (take (s .args .end .0 - s .args .start .0) (drop (s .args .start .0) (s .args .target .now))) _ _ (v .result) (v .ensures .0) (v .ensures .1) ∙ ap reverseComplement (lent-part (s .args .start .0) (s .args .end .0) (s .args .target .now)) in
-    rw (← e) (c .before .before .before .before .moved .ensures)
+    let read = c .before .before .before .before .before .before .before .before .before in
+    let a = read .before .before .before .before .before .before .args in
+    let v = read .revcomp in
+    let back = inverted-back _ _ _ (v .result) (v .ensures .0) (v .ensures .1) ∙ ap reverseComplement (lent-part (a .start .0) (a .end .0) (a .target .now)) in
+    rw (← back) (c .before .before .before .before .moved .ensures)
 
 pub inverted-spec : {M : Type 1} → statement M
 inverted-spec =

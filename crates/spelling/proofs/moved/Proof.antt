@@ -12,8 +12,9 @@ build-result-requires : tie.Need-build-result-requires
 build-result-requires c κs =
     let m = c .before .before .before .before .before .normalize-alleles in
     let s = c .before .before .before .before .before .before .before .before .before .before in
-    let change : Change = record { from = s .args .from .0; to = s .args .to .0; inserted = s .args .inserted .now } in (
-      moved-asked (s .args .direction) (s .args .kind) (s .args .piece) (s .args .target .now) change (s .args .window) (s .pre .0) (m .result) (m .ensures) (s .pre .1 .0 .0) (s .pre .1 .0 .1),
+    let a = s .args in
+    let change : Change = record { from = a .from .0; to = a .to .0; inserted = a .inserted .now } in (
+      moved-asked (a .direction) (a .kind) (a .piece) (a .target .now) change (a .window) (s .pre .0) (m .result) (m .ensures) (s .pre .1 .0 .0) (s .pre .1 .0 .1),
       s .pre .1 .1,
     )
 
@@ -27,8 +28,9 @@ returns : tie.Need-returns
 returns c =
     let m = c .before .before .before .before .before .before .before .before .before .before .normalize-alleles in
     let s = c .before .before .before .before .before .before .before .before .before .before .before .before .before .before .before in
-    let change : Change = record { from = s .args .from .0; to = s .args .to .0; inserted = s .args .inserted .now } in
-    rw (← moved-verdict (s .args .direction) (s .args .kind) (s .args .piece) (s .args .target .now) change (s .args .window) (s .pre .0) (m .result) (m .ensures))
+    let a = s .args in
+    let change : Change = record { from = a .from .0; to = a .to .0; inserted = a .inserted .now } in
+    rw (← moved-verdict (a .direction) (a .kind) (a .piece) (a .target .now) change (a .window) (s .pre .0) (m .result) (m .ensures))
     (c .before .before .before .before .build-result .ensures)
 
 pub moved-spec : {M : Type 1} → statement M

@@ -26,8 +26,9 @@ returns : tie.Need-returns
 returns c =
     let s = c .before .before .before .before .before .before .before .before .before .before .before .before .before in
     let a = s .args in
-    let unchanged = unread (a .target .now) (a .start) (a .end) (a .alternative .now) (a .edit) (sym (c .before .before .before .before .before .before .before .before .reads-alternative .ensures) ∙ not-true _ (c .before .before .before .before .before .before .before .if1 .taken)) in
-    rw unchanged at (c .before .before .before .before .spell-from-target .ensures)
+    let tested = c .before .before .before .before .before .before .before in
+    let none = sym (tested .before .reads-alternative .ensures) ∙ not-true _ (tested .if1 .taken) in
+    rw (unread (a .target .now) (a .start) (a .end) (a .alternative .now) (a .edit) none) at (c .before .before .before .before .spell-from-target .ensures)
 
 gaps-of-requires : tie.Need-gaps-of-requires
 gaps-of-requires c κs = search needs
@@ -36,8 +37,9 @@ moved-requires : tie.Need-moved-requires
 moved-requires c κs =
     let s = c .before .before .before .before .before .before .before .before .before in
     let a = s .args in
+    let tested = c .before .before .before in
     let spelt = ap (λ (gaps : Gaps). between gaps (a .alternative .now)) (c .before .before .gaps-of .ensures)
-    ∙ read (a .target .now) (a .start) (a .end) (a .alternative .now) (a .edit) (sym (c .before .before .before .before .reads-alternative .ensures) ∙ not-false _ (c .before .before .before .if1 .left)) in (
+    ∙ read (a .target .now) (a .start) (a .end) (a .alternative .now) (a .edit) (sym (tested .before .reads-alternative .ensures) ∙ not-false _ (tested .if1 .left)) in (
       rw spelt (asks (a .piece) (a .target .now) (a .start .0) (a .end .0) (a .window) (s .pre .0) (a .edit) (a .alternative .now) (s .pre .1 .0)),
       ((omega (arith, s .pre .0 .ordered, s .pre .0 .inTarget), s .pre .0 .short), s .pre .1 .1),
     )
@@ -52,8 +54,9 @@ returns-2 : tie.Need-returns-2
 returns-2 c =
     let s = c .before .before .before .before .before .before .before .before .before .before .before .before .before .before in
     let a = s .args in
+    let tested = c .before .before .before .before .before .before .before .before in
     let spelt = ap (λ (gaps : Gaps). between gaps (a .alternative .now)) (c .before .before .before .before .before .before .before .gaps-of .ensures)
-    ∙ read (a .target .now) (a .start) (a .end) (a .alternative .now) (a .edit) (sym (c .before .before .before .before .before .before .before .before .before .reads-alternative .ensures) ∙ not-false _ (c .before .before .before .before .before .before .before .before .if1 .left)) in
+    ∙ read (a .target .now) (a .start) (a .end) (a .alternative .now) (a .edit) (sym (tested .before .reads-alternative .ensures) ∙ not-false _ (tested .if1 .left)) in
     rw spelt at (c .before .before .before .before .moved .ensures)
 
 pub spell-spec : {M : Type 1} → statement M

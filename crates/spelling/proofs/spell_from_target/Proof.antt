@@ -34,9 +34,10 @@ moved-requires : tie.Need-moved-requires
 moved-requires c κs =
     let s = c .before .before .before .before .before .before .before .before in
     let a = s .args in
+    let nothing = reads-nothing (a .edit) (a .start .0) (a .end .0) (s .pre .1 .0) in
     let spelt = ap₂ between (c .before .before .before .gaps-of .ensures) (c .before .before .copied .ensures)
     ∙ copies (a .target .now) (a .start) (a .end) (a .edit) (s .pre .1 .0) (c .before .before .before .before .match .keys2) in (
-      rw spelt (asks (a .piece) (a .target .now) (a .start .0) (a .end .0) (a .window) (s .pre .0) (a .edit) [] (reads-nothing (a .edit) (a .start .0) (a .end .0) (s .pre .1 .0))),
+      rw spelt (asks (a .piece) (a .target .now) (a .start .0) (a .end .0) (a .window) (s .pre .0) (a .edit) [] nothing),
       ((omega (arith, s .pre .0 .ordered, s .pre .0 .inTarget), s .pre .0 .short), s .pre .1 .1),
     )
 
@@ -50,8 +51,9 @@ returns-2 : tie.Need-returns-2
 returns-2 c =
     let s = c .before .before .before .before .before .before .before .before .before .before .before .before .before in
     let a = s .args in
-    let spelt = ap₂ between (c .before .before .before .before .before .before .before .before .gaps-of .ensures) (c .before .before .before .before .before .before .before .copied .ensures)
-    ∙ copies (a .target .now) (a .start) (a .end) (a .edit) (s .pre .1 .0) (c .before .before .before .before .before .before .before .before .before .match .keys2) in
+    let copying = c .before .before .before .before .before .before .before in
+    let spelt = ap₂ between (copying .before .gaps-of .ensures) (copying .copied .ensures)
+    ∙ copies (a .target .now) (a .start) (a .end) (a .edit) (s .pre .1 .0) (copying .before .before .match .keys2) in
     rw spelt at (c .before .before .before .before .moved .ensures)
 
 pub spell-from-target-spec : {M : Type 1} → statement M

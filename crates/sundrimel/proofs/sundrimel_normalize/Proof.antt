@@ -18,12 +18,14 @@ normalize-requires c κs = search needs
 in-numbers-requires : tie.Need-in-numbers-requires
 in-numbers-requires c κs =
     let s = c .before .before .before .before .before .before .before .before .before .before .before .before in
-    let request = (asked (s .args .target .now) (s .args .kind) (s .args .exons .now) (s .args .cds-start) (s .args .cds-end) (s .args .start) (s .args .end) (s .args .edit) (s .args .alternative .now) (s .args .direction) (s .args .window) (length (now (s .args .reference-out))) (length (now (s .args .alternative-out)))) in
+    let a = s .args in
+    let request = asked (a .target .now) (a .kind) (a .exons .now) (a .cds-start) (a .cds-end) (a .start) (a .end) (a .edit) (a .alternative .now) (a .direction)
+    (a .window) (length (now (a .reference-out))) (length (now (a .alternative-out))) in
     let m = rw (
-      toZ-ofZ w64 (s .args .cds-start) (s .fits .cds-start),
-      toZ-ofZ w64 (s .args .cds-end) (s .fits .cds-end),
-      toZ-ofZ w32 (s .args .start) (s .fits .start),
-      toZ-ofZ w32 (s .args .end) (s .fits .end),
+      toZ-ofZ w64 (a .cds-start) (s .fits .cds-start),
+      toZ-ofZ w64 (a .cds-end) (s .fits .cds-end),
+      toZ-ofZ w32 (a .start) (s .fits .start),
+      toZ-ofZ w32 (a .end) (s .fits .end),
     )
     at (c .before .before .before .before .normalize .ensures) in
     rw (m .numbers) (small-outcome (verdict request) [] [] (reply-fits request [] []))
@@ -37,12 +39,14 @@ same-length-2 c = search needs
 returns : tie.Need-returns
 returns c =
     let s = c .before .before .before .before .before .before .before .before .before .before .before .before .before in
-    let request = (asked (s .args .target .now) (s .args .kind) (s .args .exons .now) (s .args .cds-start) (s .args .cds-end) (s .args .start) (s .args .end) (s .args .edit) (s .args .alternative .now) (s .args .direction) (s .args .window) (length (now (s .args .reference-out))) (length (now (s .args .alternative-out)))) in
+    let a = s .args in
+    let request = asked (a .target .now) (a .kind) (a .exons .now) (a .cds-start) (a .cds-end) (a .start) (a .end) (a .edit) (a .alternative .now) (a .direction)
+    (a .window) (length (now (a .reference-out))) (length (now (a .alternative-out))) in
     let m = rw (
-      toZ-ofZ w64 (s .args .cds-start) (s .fits .cds-start),
-      toZ-ofZ w64 (s .args .cds-end) (s .fits .cds-end),
-      toZ-ofZ w32 (s .args .start) (s .fits .start),
-      toZ-ofZ w32 (s .args .end) (s .fits .end),
+      toZ-ofZ w64 (a .cds-start) (s .fits .cds-start),
+      toZ-ofZ w64 (a .cds-end) (s .fits .cds-end),
+      toZ-ofZ w32 (a .start) (s .fits .start),
+      toZ-ofZ w32 (a .end) (s .fits .end),
     )
     at (c .before .before .before .before .before .normalize .ensures) in
     replied (verdict request) _ _ _ _ _ _ m (c .in-numbers .ensures)
