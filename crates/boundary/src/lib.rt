@@ -1,14 +1,15 @@
 // The piece of a range on a transcript, rows 12 to 15: the exon that holds it, cut at the CDS bounds.
 ghost use mathlib.Core.Path.{_≡_};
+ghost use mathlib.Core.Bool.{true};
 ghost use Prim.Native.Nat.{_<_};
-ghost use Rattle.definition.specs.Piece.{exonsIn, piecesOf, exonPiece, transcriptPiece};
-ghost use Rattle.search.specs.InOrder.{InOrder};
+ghost use Rattle.definition.specs.Piece.{exonsIn, exonsInOrder, piecesOf, exonPiece, transcriptPiece};
 use definition::Bound;
 use definition::ExonFound;
 use definition::Piece;
 use definition::PieceFound;
 use definition::Refusal;
 use definition::Zero;
+use search::exon_holding;
 
 // Rows 12 to 14: the exon of the first base and that of the last make a piece if they are one exon.
 fn exon_piece(first: ExonFound, last: ExonFound) -> PieceFound
@@ -39,12 +40,12 @@ pub fn get_boundary(
     start: Zero,
     end: Zero,
 ) -> PieceFound
-    requires { ⌜ (start .0 < end .0) × InOrder (exonsIn (now table)) ⌝ }
+    requires { ⌜ (start .0 < end .0) × (exonsInOrder 0 (exonsIn (now table)) ≡ true) ⌝ }
     ensures { λ r. ⌜ r ≡ transcriptPiece (piecesOf (now (table .entry))) «cds_start» «cds_end» (start .0) (end .0) ⌝ }
 {
-    let first = search::exon_holding(table, start);
+    let first = exon_holding(table, start);
     let last_base = end.0 - 1;
-    let last = search::exon_holding(table, Zero(last_base));
+    let last = exon_holding(table, Zero(last_base));
     let exon = exon_piece(first, last);
     let cut = cuts::cut_at(cds_start, start, end, exon);
     cuts::cut_at(cds_end, start, end, cut)

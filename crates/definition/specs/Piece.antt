@@ -36,10 +36,19 @@ exonsIn (a ∷ b ∷ c ∷ d ∷ e ∷ []) = []
 exonsIn (a ∷ b ∷ c ∷ d ∷ e ∷ f ∷ []) = []
 exonsIn (a ∷ b ∷ c ∷ d ∷ e ∷ f ∷ g ∷ []) = []
 
--- each start below its end and at or after the end before it, and the last end at the target's end
-abbrev pub exonsInOrder : ℕ → ℕ → List Exon → Bool
-exonsInOrder size before [] = eqb before size
-exonsInOrder size before (x ∷ xs) = leb before (x .start .0) && ltb (x .start .0) (x .end .0) && exonsInOrder size (x .end .0) xs
+-- each start below its end and at or after the end before it
+abbrev pub exonsInOrder : ℕ → List Exon → Bool
+exonsInOrder before [] = true
+exonsInOrder before (x ∷ xs) = leb before (x .start .0) && ltb (x .start .0) (x .end .0) && exonsInOrder (x .end .0) xs
+
+-- the end of the last exon
+abbrev pub lastEnd : ℕ → List Exon → ℕ
+lastEnd before [] = before
+lastEnd before (x ∷ xs) = lastEnd (x .end .0) xs
+
+-- in order, and the last end at the target's end
+abbrev pub exonsFit : ℕ → ℕ → List Exon → Bool
+exonsFit size before exons = exonsInOrder before exons && eqb (lastEnd before exons) size
 
 unfoldable pub boundInTarget : ℕ → Bound → Bool
 boundInTarget size Absent = true
@@ -60,7 +69,7 @@ tablesHold bytes cdsStart cdsEnd size =
     eqb (length bytes) (8 * length exons)
     && leb 1 (length exons)
     && leb (length exons) mostExons
-    && exonsInOrder size 0 exons
+    && exonsFit size 0 exons
     && boundInTarget size cdsStart
     && boundInTarget size cdsEnd
     && boundsInOrder cdsStart cdsEnd

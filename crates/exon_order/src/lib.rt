@@ -1,11 +1,11 @@
-// The order of the exons that a table's bytes hold, for row 10.
+// Whether the exons that a table holds are in order and end with the target, for row 10.
 ghost use mathlib.Core.Path.{_≡_};
-ghost use Rattle.definition.specs.Piece.{exonsIn, exonsInOrder};
+ghost use Rattle.definition.specs.Piece.{exonsIn, exonsFit};
 use exons::exon_at;
 
 // Each start below its end and at or after the end before it, and the last end at the target's end.
-pub fn exons_in_order(table: &[u8], size: usize) -> bool
-    ensures { λ r. ⌜ r ≡ exonsInOrder size 0 (exonsIn (now (table .entry))) ⌝ }
+pub fn exons_fit(table: &[u8], size: usize) -> bool
+    ensures { λ r. ⌜ r ≡ exonsFit size 0 (exonsIn (now (table .entry))) ⌝ }
 {
     let exons = table.len() / 8;
     let mut before = 0;

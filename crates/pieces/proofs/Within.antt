@@ -5,7 +5,7 @@ use mathlib.Core.Bool.{Bool, true, false, _&&_}
 use mathlib.Core.List.{List}
 use Prim.Native.Nat.{ℕ, _-_, _≤_, min, max}
 use native.Mathlib.Omega.{arith}
-use borrow.Author.Tests.{le-ltb}
+use borrow.Author.Tests.{eqb-true, le-ltb}
 use lib.Dec.{eqb, leb}
 use lib.ListN.{length}
 use Rattle.definition.specs.declared.Kind.the-variants.{Transcript}
@@ -20,25 +20,27 @@ use Rattle.definition.specs.declared.ExonFound.the-variants.{Holding, NoExon}
 use Rattle.definition.specs.declared.Piece.{Piece}
 use Rattle.definition.specs.declared.PieceFound.{PieceFound}
 use Rattle.definition.specs.declared.PieceFound.the-variants.{InPiece, NoPiece}
-use Rattle.definition.specs.Piece.{exonsIn, exonsInOrder, tablesHold, piecesOf, pieceFrom}
+use Rattle.definition.specs.Piece.{exonsIn, exonsInOrder, lastEnd, exonsFit, tablesHold, piecesOf, pieceFrom}
 use Rattle.definition.specs.Piece.{exonHolding, exonPiece, cutAt, transcriptPiece, pieceFor}
 use Rattle.definition.specs.Answer.{leavesTarget}
-use Rattle.search.specs.InOrder.{InOrder}
 use Rattle.search.proofs.Order.{exon-within}
-use Rattle.definition.proofs.Tests.{and-false}
+use Rattle.definition.proofs.Tests.{and-true, and-false}
 
 -- the exons of a table that passes row 10 stand in order up to the target's end
 module _ (bytes : List ℕ) (cdsStart cdsEnd : Bound) (size : ℕ) (holds : tablesHold bytes cdsStart cdsEnd size ≡ true) where
-  pub exons-ordered : exonsInOrder size 0 (exonsIn bytes) ≡ true
+  exons-fit : exonsFit size 0 (exonsIn bytes) ≡ true
   unfolding tablesHold
-  exons-ordered = go (exonsInOrder size 0 (exonsIn bytes)) refl
+  exons-fit = go (exonsFit size 0 (exonsIn bytes)) refl
     where
-      go : (t : Bool) → exonsInOrder size 0 (exonsIn bytes) ≡ t → t ≡ true
+      go : (t : Bool) → exonsFit size 0 (exonsIn bytes) ≡ t → t ≡ true
       go true e = refl
       go false e = rw (e, and-false) at holds
 
-  pub table-in-order : InOrder (exonsIn bytes)
-  table-in-order = record { size = size; ordered = exons-ordered }
+  pub table-in-order : exonsInOrder 0 (exonsIn bytes) ≡ true
+  table-in-order = and-true (exonsInOrder 0 (exonsIn bytes)) _ exons-fit .0
+
+  pub last-end-within : lastEnd 0 (exonsIn bytes) ≤ size
+  last-end-within = omega (arith, eqb-true (lastEnd 0 (exonsIn bytes)) size (and-true (exonsInOrder 0 (exonsIn bytes)) _ exons-fit .1))
 
 -- a piece that ends at or before `size`
 abbrev pub Within : ℕ → PieceFound → Type 0
@@ -82,9 +84,10 @@ module _ (bytes : List ℕ) (cdsStart cdsEnd : Bound) (size : ℕ) (holds : tabl
   transcript-within =
       let x = exonHolding start (exonsIn bytes) in
       let y = exonHolding (end - 1) (exonsIn bytes) in
+      let ordered = table-in-order bytes cdsStart cdsEnd size holds in
       cut-within size cdsEnd start end _
       (cut-within size cdsStart start end (exonPiece x y)
-      (exons-within size x y (exon-within start size 0 (exonsIn bytes) (exons-ordered bytes cdsStart cdsEnd size holds))))
+      (exons-within size x y (λ z e. omega (arith, exon-within start 0 (exonsIn bytes) ordered z e, last-end-within bytes cdsStart cdsEnd size holds))))
 
   pub piece-for-within : Within size (pieceFor Transcript bytes cdsStart cdsEnd start end)
   unfolding pieceFor piecesOf

@@ -8,7 +8,7 @@ use borrow.Author.Tests.{eq-eqb, ne-eqb, le-leb, lt-leb, not-true, not-false}
 use lib.ListN.{length}
 use Rattle.definition.specs.declared.Bound.{Bound}
 use Rattle.definition.specs.Limits.{mostExons}
-use Rattle.definition.specs.Piece.{exonsIn, exonsInOrder, boundInTarget, boundsInOrder, tablesHold}
+use Rattle.definition.specs.Piece.{exonsIn, exonsFit, boundInTarget, boundsInOrder, tablesHold}
 use Rattle.exons.proofs.Pairs.{pairs-count}
 
 module _ (bytes : List ℕ) (cdsStart cdsEnd : Bound) (size : ℕ) where
@@ -34,7 +34,7 @@ module _ (bytes : List ℕ) (cdsStart cdsEnd : Bound) (size : ℕ) where
       )
 
   pub rules-left : length bytes % 8 ≡ 0 → 8 ≤ length bytes → length bytes ≤ 8 * mostExons → (holds : Bool)
-      → holds ≡ (exonsInOrder size 0 (exonsIn bytes) && boundInTarget size cdsStart && boundInTarget size cdsEnd && boundsInOrder cdsStart cdsEnd)
+      → holds ≡ (exonsFit size 0 (exonsIn bytes) && boundInTarget size cdsStart && boundInTarget size cdsEnd && boundsInOrder cdsStart cdsEnd)
       → holds ≡ tablesHold bytes cdsStart cdsEnd size
   unfolding tablesHold
   rules-left w h k holds e =

@@ -44,7 +44,7 @@ pub fn tables_hold(table: &[u8], cds_start: Bound, cds_end: Bound, size: usize) 
     if 4096 < bytes {
         return false;
     }
-    if !exon_order::exons_in_order(table, size) {
+    if !exon_order::exons_fit(table, size) {
         return false;
     }
     if !bound_in_target(cds_start, size) {

@@ -50,11 +50,10 @@ loop-again-2 : tie.Need-loop-again-2 Inv-loop μ-loop
 loop-again-2 c =
     let turn = c .before .before .before in
     let top = turn .before .before in
-    let start = top .before .before in
-    let ordered = start .pre in (
+    let start = top .before .before in (
       omega arith,
       omega arith,
-      sym (held-behind _ (ordered .size) 0 ((top .loop .from + top .loop .to) / 2) (exonsIn (start .args .table .now)) _ _ (ordered .ordered) (turn .exon-at .ensures) (c .if1 .left)),
+      sym (held-behind _ 0 ((top .loop .from + top .loop .to) / 2) (exonsIn (start .args .table .now)) _ _ (start .pre) (turn .exon-at .ensures) (c .if1 .left)),
       top .loop .inv .3,
     )
 

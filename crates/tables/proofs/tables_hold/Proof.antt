@@ -13,14 +13,14 @@ returns-2 c = no-pair _ _ _ _ (c .before .if1 .left) (c .if2 .taken)
 returns-3 : tie.Need-returns-3
 returns-3 c = too-many _ _ _ _ (c .before .before .if1 .left) (c .if3 .taken)
 
-exons-in-order-requires : tie.Need-exons-in-order-requires
-exons-in-order-requires c κs = search needs
+exons-fit-requires : tie.Need-exons-fit-requires
+exons-fit-requires c κs = search needs
 
 returns-4 : tie.Need-returns-4
 returns-4 c =
     let sized = c .before .before in
     rules-left _ _ _ _ (sized .before .before .if1 .left) (sized .before .if2 .left) (sized .if3 .left) _
-    (rw (broken (c .before .exons-in-order .ensures) (c .if4 .taken)))
+    (rw (broken (c .before .exons-fit .ensures) (c .if4 .taken)))
 
 bound-in-target-requires : tie.Need-bound-in-target-requires
 bound-in-target-requires c κs = search needs
@@ -28,7 +28,7 @@ bound-in-target-requires c κs = search needs
 returns-5 : tie.Need-returns-5
 returns-5 c =
     let sized = c .before .before .before .before in
-    let exons = kept (c .before .before .before .exons-in-order .ensures) (c .before .before .if4 .left) in
+    let exons = kept (c .before .before .before .exons-fit .ensures) (c .before .before .if4 .left) in
     rules-left _ _ _ _ (sized .before .before .if1 .left) (sized .before .if2 .left) (sized .if3 .left) _
     (rw (exons, broken (c .before .bound-in-target .ensures) (c .if5 .taken)))
 
@@ -38,7 +38,7 @@ bound-in-target-requires-2 c κs = search needs
 returns-6 : tie.Need-returns-6
 returns-6 c =
     let sized = c .before .before .before .before .before .before in
-    let exons = kept (c .before .before .before .before .before .exons-in-order .ensures) (c .before .before .before .before .if4 .left) in
+    let exons = kept (c .before .before .before .before .before .exons-fit .ensures) (c .before .before .before .before .if4 .left) in
     let first = kept (c .before .before .before .bound-in-target .ensures) (c .before .before .if5 .left) in
     rules-left _ _ _ _ (sized .before .before .if1 .left) (sized .before .if2 .left) (sized .if3 .left) _
     (rw (exons, first, broken (c .before .bound-in-target2 .ensures) (c .if6 .taken)))
@@ -49,7 +49,7 @@ bounds-in-order-requires c κs = search needs
 returns-7 : tie.Need-returns-7
 returns-7 c =
     let sized = c .before .before .before .before .before .before .before in
-    let exons = kept (c .before .before .before .before .before .before .exons-in-order .ensures) (c .before .before .before .before .before .if4 .left) in
+    let exons = kept (c .before .before .before .before .before .before .exons-fit .ensures) (c .before .before .before .before .before .if4 .left) in
     let first = kept (c .before .before .before .before .bound-in-target .ensures) (c .before .before .before .if5 .left) in
     let second = kept (c .before .before .bound-in-target2 .ensures) (c .before .if6 .left) in
     rules-left _ _ _ _ (sized .before .before .if1 .left) (sized .before .if2 .left) (sized .if3 .left) _
@@ -62,7 +62,7 @@ tables-hold-spec =
     returns
     returns-2
     returns-3
-    exons-in-order-requires
+    exons-fit-requires
     returns-4
     bound-in-target-requires
     returns-5

@@ -1,17 +1,17 @@
--- `exon_order::exons_in_order` meets its contract. The invariant: the exons from place i on are in order after `before` exactly if the table is in order.
+-- `exon_order::exons_fit` meets its contract. The invariant: the exons from place i on fit after `before` exactly if all do from 0.
 -- The measure is the exons left. Assumes nothing.
 use mathlib.Core.Path.{_≡_, refl, sym, _∙_}
 use Prim.Native.Nat.{_≤_, _-_}
 use native.Mathlib.Omega.{arith}
 use lib.ListN.{drop}
-use Rattle.definition.specs.Piece.{exonsIn, exonsInOrder}
+use Rattle.definition.specs.Piece.{exonsIn, exonsFit}
 use Rattle.exons.proofs.Pairs.{no-more}
 use Rattle.exon_order.proofs.Turns.{starts-early, ends-early, goes-on}
-use Rattle.exon_order.proofs.exons_in_order.Statement.{statement}
-use Rattle.exon_order.proofs.exons_in_order.Tie as tie
+use Rattle.exon_order.proofs.exons_fit.Statement.{statement}
+use Rattle.exon_order.proofs.exons_fit.Tie as tie
 
 abbrev Inv-loop : tie.InvT-loop
-Inv-loop table size exons before₀ i₀ before i = (i ≤ exons) × (exonsInOrder size before (drop i (exonsIn table)) ≡ exonsInOrder size 0 (exonsIn table))
+Inv-loop table size exons before₀ i₀ before i = (i ≤ exons) × (exonsFit size before (drop i (exonsIn table)) ≡ exonsFit size 0 (exonsIn table))
 
 abbrev μ-loop : tie.MeasureT-loop
 μ-loop table size exons before₀ i₀ before i = exons - i
@@ -46,8 +46,8 @@ loop-again c =
 returns-3 : tie.Need-returns-3 Inv-loop μ-loop
 returns-3 c = rw (no-more (c .before .before .before .args .table .now) (c .before .loop .i) (c .loop-test .left)) at (c .before .loop .inv .1)
 
-pub exons-in-order-spec : {M : Type 1} → statement M
-exons-in-order-spec =
+pub exons-fit-spec : {M : Type 1} → statement M
+exons-fit-spec =
     tie.close
     (tie.spec
     Inv-loop
