@@ -49,10 +49,12 @@ typed 𝓤 H A W r v is = LL.lawful T.the-type T′.the-laws 𝓤 H A W .typed r
 
 module _ {M : Type 1} {𝓤 : URA M} {H : Heap 𝓤} {A : Atoms 𝓤} {K : Type 0} {W : Given 𝓤 H A} {Γ : List (Item 𝓤)} {G : Goal 𝓤 H} where
   pub opened : K → Soaks G → {κ : Lft} {q : Share} {γ : GName} (h : Allele) (b o : ℕ)
-      → (IsOf h (mach h) → Seq K W (‵ (fat fullShare T′.mir b o (mach h)) ∷ ‵ (Own h (mach h)) ∷ ‵ (Opened κ q b o γ) ∷ ‵ (Shown γ h) ∷ ‵ (fauth γ (T.the-row .coded .code h)) ∷ Γ) G)
+      → (IsOf h (mach h) → Seq K W (‵ (fat fullShare T′.mir b o (mach h)) ∷ ‵ (Own h (mach h))
+      ∷ ‵ (Opened κ q b o γ) ∷ ‵ (Shown γ h) ∷ ‵ (fauth γ (T.the-row .coded .code h)) ∷ Γ) G)
       → Seq K W (‵ (Shown γ h) ∷ ‵ (Borrow κ b o γ) ∷ ‵ (flft κ q) ∷ Γ) G
   opened t z h b o k =
-      opens t z T.the-row {h = h} b o (λ vs. spelt t T.the-row (Is T.the-row) (shows 𝓤 H A T.the-row) (LL.vals T.the-type T′.the-laws) (LL.tells T.the-type T′.the-laws) fullShare h vs b o $
+      opens t z T.the-row {h = h} b o (λ vs. spelt t T.the-row (Is T.the-row) (shows 𝓤 H A T.the-row)
+      (LL.vals T.the-type T′.the-laws) (LL.tells T.the-type T′.the-laws) fullShare h vs b o $
       use1 W (‵ (fat fullShare T′.mir b o (mach h))) (W .laws .raw-at fullShare T′.mir b o (mach h)) $
       move t (1 ∷ []) $ peeks t T.the-row (Is T.the-row) (shows 𝓤 H A T.the-row) h (mach h ∷ []) (λ is. move t (1 ∷ 0 ∷ []) $ k is))
 

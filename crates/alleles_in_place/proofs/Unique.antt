@@ -24,7 +24,8 @@ use Rattle.alleles_in_place.proofs.keep_front_in as keep-front-in
 use Rattle.alleles_in_place.proofs.keep_back_in as keep-back-in
 
 -- what the clauses ensure of two results for the same arguments gives that the same is seen of both: `Fixes`, of a contract that is proved by hand
-abbrev pub Fixed : {M : Type 1} (𝓤 : URA M) (T : Ended) → Clauses 𝓤 T → {S : Type 0} → ((κs : Lfts (T .signature .lifetimes)) → Res (T .signature) κs → AtExit T κs → S) → Type 1
+abbrev pub Fixed : {M : Type 1} (𝓤 : URA M) (T : Ended) → Clauses 𝓤 T → {S : Type 0}
+    → ((κs : Lfts (T .signature .lifetimes)) → Res (T .signature) κs → AtExit T κs → S) → Type 1
 Fixed 𝓤 T c seen =
     (κs : Lfts (T .signature .lifetimes)) (a : Args (T .signature) κs) (g : c κs a .ghost) (x y : Res (T .signature) κs) (atX atY : AtExit T κs)
     → ent 𝓤 (sep 𝓤 (c κs a .ensures g x atX) (c κs a .ensures g y atY)) (fact 𝓤 (seen κs x atX ≡ seen κs y atY))

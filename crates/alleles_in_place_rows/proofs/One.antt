@@ -17,7 +17,8 @@ use prog.Wp.{Heap, Calls, Loops, WpFn, Tables}
 use ghost.Atoms.{Atoms, sem}
 use contract.Lifetimes.{Lfts, Shares, toks}
 use contract.Running.{GhostRules, Running, givenOf}
-use types.Kit.{Given, ⋆, ‵, raw, _⊛_, some, later, _$_, _∵_, !, qed, by, move, keep, use1, use2, use3, rewrite, split, join, pick, fsplit, fjoin, suffices, frame, await}
+use types.Kit.{Given, ⋆, ‵, raw, _⊛_, some, later, _$_, _∵_, !, qed, by, move, keep, use1, use2, use3, rewrite}
+use types.Kit.{split, join, pick, fsplit, fjoin, suffices, frame, await}
 use types.Run.{look, init, forget, stop, from, load, addr, of-opd, and-then, no-more, land, assigns, returns, enter, alloc1, alloc0, params1, pass1, pass0, free1, free0}
 use types.SemTy.{Body}
 use types.Tokens.{lft-new, lft-end}
@@ -69,40 +70,54 @@ made b γ r = record { ptr = (b, 0); name = γ; now = r }
 abbrev pub Ref : ℕ → Lft → ℕ → GName → Allele → Fml
 Ref j κ b γ r = MutRef (named j) κ T.the-row .own (made b γ r) (vptr b 0 ∷ [])
 
+-- what a thin form leaves with its machine value v: the lifetime, B, and R and E of the last values, the first of which stands under γ
+abbrev Leaves : {M : Type 1} (𝓤 : URA M) (H : Heap 𝓤) (A : Atoms 𝓤) → ℕ → GName
+    → SProp 𝓤 → (Z : Type 0) → (Allele × Z → Fml) → (Allele × Z → SProp 𝓤)
+    → Val → SProp 𝓤
+Leaves 𝓤 H A α γ B Z R E v =
+    H .⇛ (ex 𝓤 (λ (u : Unit {0}). sep 𝓤 (sep 𝓤 (sep 𝓤 (A .lft (α ∷ []) fullShare) B) (sem 𝓤 H A (unit .own u (v ∷ []))))
+    (ex 𝓤 (λ (ws : Allele × Z). sep 𝓤 (sem 𝓤 H A (fsep (fres γ (T.the-row .coded .code (ws .0))) (R ws))) (E ws)))))
+
 module _ {M : Type 1} (𝓤 : URA M) (H : Heap 𝓤) (A : Atoms 𝓤) (W : Given 𝓤 H A) where
   -- P goes to the callee with the reference; B comes back, with R and E of the last values, for the local at b lent for α under γ
   module _ (h : Allele) (is : IsOf h (mach h)) (τ : Ty) (w : Val) (fits : Holds (hasTy τ w) × WT w) (n : ℕ) (callee : Name)
-      (C : Calls 𝓤 H) (Λ : Loops 𝓤 H) (fm : FmC 𝓤 H (W .laws) C) (P B : SProp 𝓤) (Z : ℕ → Type 0) (R : (α : ℕ) → Allele × Z α → Fml) (E : (α b : ℕ) (γ : GName) → Allele × Z α → SProp 𝓤) (Post : Val → SProp 𝓤)
+      (C : Calls 𝓤 H) (Λ : Loops 𝓤 H) (fm : FmC 𝓤 H (W .laws) C) (P B : SProp 𝓤) (Z : ℕ → Type 0)
+      (R : (α : ℕ) → Allele × Z α → Fml) (E : (α b : ℕ) (γ : GName) → Allele × Z α → SProp 𝓤) (Post : Val → SProp 𝓤)
       (called : (α b : ℕ) (γ : GName) → ent 𝓤 (sep 𝓤 (sem 𝓤 H A (Ref 0 (α ∷ []) b γ h)) (sep 𝓤 (A .lft (α ∷ []) fullShare) P))
-      (C callee (vptr b 0 ∷ w ∷ []) (λ v. H .⇛ (ex 𝓤 (λ (u : Unit {0}). sep 𝓤 (sep 𝓤 (sep 𝓤 (A .lft (α ∷ []) fullShare) B) (sem 𝓤 H A (unit .own u (v ∷ []))))
-      (ex 𝓤 (λ (ws : Allele × Z α). sep 𝓤 (sem 𝓤 H A (fsep (fres γ (T.the-row .coded .code (ws .0))) (R α ws))) (E α b γ ws))))))))
-      (ends : (α b : ℕ) (γ : GName) (ws : Allele × Z α) → ent 𝓤 (⋆ 𝓤 H A (‵ (Own (ws .0) (mach (ws .0))) ∷ raw B ∷ raw (E α b γ ws) ∷ [])) (Post (mach (ws .0)))) where
+      (C callee (vptr b 0 ∷ w ∷ []) (Leaves 𝓤 H A α γ B (Z α) (R α) (E α b γ))))
+      (ends : (α b : ℕ) (γ : GName) (ws : Allele × Z α)
+      → ent 𝓤 (⋆ 𝓤 H A (‵ (Own (ws .0) (mach (ws .0))) ∷ raw B ∷ raw (E α b γ ws) ∷ [])) (Post (mach (ws .0)))) where
     lends : ent 𝓤 (⋆ 𝓤 H A (‵ (Own h (mach h)) ∷ raw P ∷ [])) (WpFn 𝓤 H C Λ (lending n callee τ) (mach h ∷ w ∷ []) Post)
     lends =
         qed W (‵ (Own h (mach h)) ∷ raw P ∷ []) ∵ enter ! C Λ (lending n callee τ) (mach h ∷ w ∷ []) _ $
-        alloc1 ! (λ l₀. alloc1 ! (λ l₁. alloc1 ! (λ l₂. alloc1 ! (λ l₃. alloc1 ! (λ l₄. alloc1 ! (λ l₅. alloc0 ! $ params1 ! $ pass1 ! (init ! 8 refl (typed 𝓤 H A W h (mach h) is)) $ pass1 ! (init ! 6 refl fits) $ pass0 ! $
+        alloc1 ! (λ l₀. alloc1 ! (λ l₁. alloc1 ! (λ l₂. alloc1 ! (λ l₃. alloc1 ! (λ l₄. alloc1 ! (λ l₅. alloc0 ! $
+        params1 ! $ pass1 ! (init ! 8 refl (typed 𝓤 H A W h (mach h) is)) $ pass1 ! (init ! 6 refl fits) $ pass0 ! $
         -- [room for _5; …; room for _4; …; room for _3; …; _2; …; _1; …; room for _0; …; what the allele owns; P]
         assigns ! (of-opd ! (load ! (from ! (stop !)) (look ! 8 refl))) (from ! (stop !)) (init ! 4 refl (typed 𝓤 H A W h (mach h) is)) $
         assigns ! (addr ! (from ! (stop !))) (from ! (stop !)) (init ! 0 refl (tt, tt)) $
         -- the local is lent for a new lifetime
         move ! (4 ∷ 12 ∷ []) $ use2 W (‵ (partAt T.the-row fullShare h l₃ 0)) (lies 𝓤 H A W h (mach h) l₃ 0) $ lft-new ! tt (λ α. move ! (1 ∷ []) $
-        use1 W (later (some (λ (γ : GName). ‵ (Ref 0 (α ∷ []) l₃ γ h) ⊛ ‵ (flent (α ∷ []) (Body (mem T.the-row) l₃ 0 γ))))) (lends-ref 𝓤 H A W T.the-row (named 0) (α ∷ []) h l₃ 0) $
+        use1 W (later (some (λ (γ : GName). ‵ (Ref 0 (α ∷ []) l₃ γ h) ⊛ ‵ (flent (α ∷ []) (Body (mem T.the-row) l₃ 0 γ)))))
+        (lends-ref 𝓤 H A W T.the-row (named 0) (α ∷ []) h l₃ 0) $
         await ! tt $ pick ! (λ γ. split ! $ move ! (2 ∷ 14 ∷ []) $ join ! $ move ! (1 ∷ 0 ∷ []) $ join ! $
         -- [what the form is given; the lender's part; _5; …; room for _4; …; …; _2; …; _1; …; room for _0; …]
         calls-from ! fm (‵ (Ref 0 (α ∷ []) l₃ γ h) ⊛ (‵ (flft (α ∷ []) fullShare) ⊛ raw P)) (vptr l₃ 0 ∷ w ∷ []) _ (called α l₃ γ)
         (and-then ! (load ! (from ! (stop !)) (look ! 2 refl)) (and-then ! (load ! (from ! (stop !)) (look ! 7 refl)) (no-more !))) (λ v.
-        use1 W (later (some (λ (u : Unit {0}). ((‵ (flft (α ∷ []) fullShare) ⊛ raw B) ⊛ ‵ (unit .own u (v ∷ []))) ⊛ some (λ (ws : Allele × Z α). ‵ (fsep (fres γ (T.the-row .coded .code (ws .0))) (R α ws)) ⊛ raw (E α l₃ γ ws))))) (id⊢ 𝓤 _) $
+        use1 W (later (some (λ (u : Unit {0}). ((‵ (flft (α ∷ []) fullShare) ⊛ raw B) ⊛ ‵ (unit .own u (v ∷ [])))
+        ⊛ some (λ (ws : Allele × Z α). ‵ (fsep (fres γ (T.the-row .coded .code (ws .0))) (R α ws)) ⊛ raw (E α l₃ γ ws))))) (id⊢ 𝓤 _) $
         await ! tt $ pick ! (λ u. split ! $ move ! (1 ∷ []) $ pick ! (λ ws. split ! $ fsplit ! $ move ! (3 ∷ []) $ split ! $ split ! $ move ! (2 ∷ []) $
         facts ! unit (Is unit) (shows 𝓤 H A unit) u (v ∷ []) (λ iu.
         -- [the token; B; the last value; R; E; the lender's part; _5; …; room for _4; …; …; _2; …; _1; …; room for _0; …]
         land ! (from ! (stop !)) (init ! 8 refl (nothing-lawful 𝓤 H A W .typed u (v ∷ []) iu .0)) $
         -- the lifetime is ended, and the local comes back at its last value
-        lft-end ! tt $ move ! (0 ∷ 5 ∷ 2 ∷ []) $ use3 W (later (‵ (partAt T.the-row fullShare (ws .0) l₃ 0))) (ref-back 𝓤 H A W T.the-row (α ∷ []) γ (ws .0) l₃ 0) $ await ! tt $
+        lft-end ! tt $ move ! (0 ∷ 5 ∷ 2 ∷ []) $
+        use3 W (later (‵ (partAt T.the-row fullShare (ws .0) l₃ 0))) (ref-back 𝓤 H A W T.the-row (α ∷ []) γ (ws .0) l₃ 0) $ await ! tt $
         found ! (ws .0) l₃ 0 (λ ir.
         -- [_3; what it owns; B; R; E; _5; …; _4; …; …; _2; …; _1; …; room for _0; …]
         assigns ! (of-opd ! (load ! (from ! (stop !)) (look ! 0 refl))) (from ! (stop !)) (init ! 14 refl (typed 𝓤 H A W (ws .0) (mach (ws .0)) ir)) $
         returns ! (look ! 14 refl) $ forget ! 0 refl $ forget ! 5 refl $ forget ! 7 refl $ forget ! 10 refl $ forget ! 12 refl $ forget ! 14 refl $
-        move ! (14 ∷ 15 ∷ []) $ free1 ! $ move ! (12 ∷ 13 ∷ []) $ free1 ! $ move ! (10 ∷ 11 ∷ []) $ free1 ! $ move ! (0 ∷ 9 ∷ []) $ free1 ! $ move ! (6 ∷ 7 ∷ []) $ free1 ! $ move ! (4 ∷ 5 ∷ []) $ free1 ! $ free0 ! $
+        move ! (14 ∷ 15 ∷ []) $ free1 ! $ move ! (12 ∷ 13 ∷ []) $ free1 ! $ move ! (10 ∷ 11 ∷ []) $ free1 ! $
+        move ! (0 ∷ 9 ∷ []) $ free1 ! $ move ! (6 ∷ 7 ∷ []) $ free1 ! $ move ! (4 ∷ 5 ∷ []) $ free1 ! $ free0 ! $
         keep ! (0 ∷ 1 ∷ 3 ∷ []) $ by ! (ends α l₃ γ ws))))))))))))))
 
 -- what stands beside the allele, of m lifetimes, in the caller's signature and in the thin form's, which own the same of it
@@ -128,7 +143,12 @@ module _ {m : ℕ} (X : Beside m) where
 
   abbrev Thin : Ended
   Thin = record {
-    signature = record { lifetimes = suc m; outlives = []; params = mutRefTo (0 ∷ []) tt (plain (λ _. T.the-row)) ∷ plain (X .there .row) ∷ []; result = plain (λ _. unit) };
+    signature = record {
+      lifetimes = suc m;
+      outlives = [];
+      params = mutRefTo (0 ∷ []) tt (plain (λ _. T.the-row)) ∷ plain (X .there .row) ∷ [];
+      result = plain (λ _. unit);
+    };
     kept = (yes, (yes, tt));
   }
 
@@ -150,12 +170,17 @@ module _ {m : ℕ} (X : Beside m) where
 
     -- and ensures of its result what that ensures of the buffer at exit
     abbrev Says : Type 1
-    Says = (κs : Lfts m) (a : Args (ByValue .signature) κs) (g : c κs a .ghost) (κ : Lft) (b : ℕ) (γ : GName) (k : d (κ, κs) (handed κ b γ κs a) .ghost) (u : Unit {0}) (ws : Lasts Thin (κ, κs) (handed κ b γ κs a))
-        → ent 𝓤 (d (κ, κs) (handed κ b γ κs a) .ensures k u (atExit Thin (κ, κs) (handed κ b γ κs a) ws)) (c κs a .ensures g (ws .0) (atExit ByValue κs a (left-at κs a)))
+    Says = (κs : Lfts m) (a : Args (ByValue .signature) κs) (g : c κs a .ghost) (κ : Lft) (b : ℕ) (γ : GName)
+        (k : d (κ, κs) (handed κ b γ κs a) .ghost) (u : Unit {0}) (ws : Lasts Thin (κ, κs) (handed κ b γ κs a))
+        → ent 𝓤 (d (κ, κs) (handed κ b γ κs a) .ensures k u (atExit Thin (κ, κs) (handed κ b γ κs a) ws))
+        (c κs a .ensures g (ws .0) (atExit ByValue κs a (left-at κs a)))
 
-  module _ {M : Type 1} (𝓤 : URA M) (H : Heap 𝓤) (A : Atoms 𝓤) (W : Given 𝓤 H A) (c : Clauses 𝓤 ByValue) (d : Clauses 𝓤 Thin) (asks : Asks 𝓤 c d) (says : Says 𝓤 c d) where
-    module _ (C : Calls 𝓤 H) (Λ : Loops 𝓤 H) (fm : FmC 𝓤 H (W .laws) C) (callee : Name) (known : Triple 𝓤 (C callee) (tripleOf 𝓤 H A (Thin .signature) (closing 𝓤 H A Thin d)))
-        (κs : Lfts m) (qs : Shares m) (a : Args (ByValue .signature) κs) (g : c κs a .ghost) (ih : IsOf (a .0) (mach (a .0))) (is : Is (X .here .row κs) (a .1 .0) (X .here .val κs (a .1 .0) ∷ [])) where
+  module _ {M : Type 1} (𝓤 : URA M) (H : Heap 𝓤) (A : Atoms 𝓤) (W : Given 𝓤 H A)
+      (c : Clauses 𝓤 ByValue) (d : Clauses 𝓤 Thin) (asks : Asks 𝓤 c d) (says : Says 𝓤 c d) where
+    module _ (C : Calls 𝓤 H) (Λ : Loops 𝓤 H) (fm : FmC 𝓤 H (W .laws) C) (callee : Name)
+        (known : Triple 𝓤 (C callee) (tripleOf 𝓤 H A (Thin .signature) (closing 𝓤 H A Thin d)))
+        (κs : Lfts m) (qs : Shares m) (a : Args (ByValue .signature) κs) (g : c κs a .ghost)
+        (ih : IsOf (a .0) (mach (a .0))) (is : Is (X .here .row κs) (a .1 .0) (X .here .val κs (a .1 .0) ∷ [])) where
       abbrev h : Allele
       h = a .0
 
@@ -189,23 +214,28 @@ module _ {m : ℕ} (X : Beside m) where
       E α b γ ws = d (α ∷ [], κs) (given-at α b γ) .ensures (asks κs a g (α ∷ []) b γ .0) tt (atExit Thin (α ∷ [], κs) (given-at α b γ) ws)
 
       called : (α b : ℕ) (γ : GName) → ent 𝓤 (sep 𝓤 (sem 𝓤 H A (Ref 0 (α ∷ []) b γ h)) (sep 𝓤 (A .lft (α ∷ []) fullShare) Other))
-          (C callee (vptr b 0 ∷ w ∷ []) (λ v. H .⇛ (ex 𝓤 (λ (u : Unit {0}). sep 𝓤 (sep 𝓤 (sep 𝓤 (A .lft (α ∷ []) fullShare) Tokens) (sem 𝓤 H A (unit .own u (v ∷ []))))
-          (ex 𝓤 (λ (ws : Allele × Z α). sep 𝓤 (sem 𝓤 H A (fsep (fres γ (T.the-row .coded .code (ws .0))) (R α ws))) (E α b γ ws)))))))
+          (C callee (vptr b 0 ∷ w ∷ []) (Leaves 𝓤 H A α γ Tokens (Z α) (R α) (E α b γ)))
       called α b γ =
           via 𝓤 _
-          (qed W (‵ (Ref 0 (α ∷ []) b γ h) ∷ ‵ (flft (α ∷ []) fullShare) ∷ ‵ (fsep (X .here .row κs .own (a .1 .0) (w ∷ [])) ftrue) ∷ raw Tokens ∷ raw (c κs a .requires g) ∷ []) ∵
-          rewrite ! 2 (λ (P : Fml). ‵ (fsep P ftrue)) (X .same (α ∷ []) κs (a .1 .0) (w ∷ [])) refl $ move ! (0 ∷ 2 ∷ []) $ fjoin ! $ move ! (1 ∷ 2 ∷ []) $ join ! $ join ! $ frame ! $ by ! (asks κs a g (α ∷ []) b γ .1))
+          (qed W (‵ (Ref 0 (α ∷ []) b γ h) ∷ ‵ (flft (α ∷ []) fullShare)
+          ∷ ‵ (fsep (X .here .row κs .own (a .1 .0) (w ∷ [])) ftrue) ∷ raw Tokens ∷ raw (c κs a .requires g) ∷ []) ∵
+          rewrite ! 2 (λ (P : Fml). ‵ (fsep P ftrue)) (X .same (α ∷ []) κs (a .1 .0) (w ∷ [])) refl $
+          move ! (0 ∷ 2 ∷ []) $ fjoin ! $ move ! (1 ∷ 2 ∷ []) $ join ! $ join ! $ frame ! $ by ! (asks κs a g (α ∷ []) b γ .1))
           (known (((α ∷ [], κs), (fullShare, qs), tt, given-at α b γ, (vptr b 0 ∷ [], (w ∷ [], tt))), asks κs a g (α ∷ []) b γ .0))
 
-      ends : (α b : ℕ) (γ : GName) (ws : Allele × Z α) → ent 𝓤 (⋆ 𝓤 H A (‵ (Own (ws .0) (mach (ws .0))) ∷ raw Tokens ∷ raw (E α b γ ws) ∷ [])) (Post (mach (ws .0)))
+      ends : (α b : ℕ) (γ : GName) (ws : Allele × Z α)
+          → ent 𝓤 (⋆ 𝓤 H A (‵ (Own (ws .0) (mach (ws .0))) ∷ raw Tokens ∷ raw (E α b γ ws) ∷ [])) (Post (mach (ws .0)))
       ends α b γ ws =
           qed W (‵ (Own (ws .0) (mach (ws .0))) ∷ raw Tokens ∷ raw (E α b γ ws) ∷ []) ∵
           suffices ! _ (ends-at 𝓤 H A ByValue stayed c W ((κs, qs, tt, a, at), g) (mach (ws .0)) (ws .0) (left-at κs a) (tt, (tt, tt))) $
-          nothing ! $ nothing ! $ fjoin ! $ nothing ! $ fjoin ! $ join ! $ move ! (1 ∷ 0 ∷ []) $ join ! $ frame ! $ by ! (says κs a g (α ∷ []) b γ (asks κs a g (α ∷ []) b γ .0) tt ws)
+          nothing ! $ nothing ! $ fjoin ! $ nothing ! $ fjoin ! $ join ! $ move ! (1 ∷ 0 ∷ []) $ join ! $
+          frame ! $ by ! (says κs a g (α ∷ []) b γ (asks κs a g (α ∷ []) b γ .0) tt ws)
 
-      walk : ent 𝓤 (sep 𝓤 (onEntry 𝓤 H A (ByValue .signature) κs qs a at) (c κs a .requires g)) (WpFn 𝓤 H C Λ (lending m callee (X .here .ty)) (mach h ∷ w ∷ []) Post)
+      walk : ent 𝓤 (sep 𝓤 (onEntry 𝓤 H A (ByValue .signature) κs qs a at) (c κs a .requires g))
+          (WpFn 𝓤 H C Λ (lending m callee (X .here .ty)) (mach h ∷ w ∷ []) Post)
       walk =
-          qed W ((raw Tokens ⊛ ‵ (owns (T.the-row ∷ X .here .row κs ∷ []) a at)) ∷ raw (c κs a .requires g) ∷ []) ∵ split ! $ move ! (1 ∷ []) $ fsplit ! $
+          qed W ((raw Tokens ⊛ ‵ (owns (T.the-row ∷ X .here .row κs ∷ []) a at)) ∷ raw (c κs a .requires g) ∷ []) ∵ split ! $
+          move ! (1 ∷ []) $ fsplit ! $
           by ! (lends 𝓤 H A W h ih (X .here .ty) w (X .here .fits κs (a .1 .0) is) m callee C Λ fm Other Tokens Z R E Post called ends)
 
     goes : AllGo 𝓤 H A W m (ByValue .signature .params) (ByValue .kept) stayed
@@ -214,12 +244,16 @@ module _ {m : ℕ} (X : Beside m) where
     meets : (𝓣 : Tables 𝓤 H) (callee : Name) → Triple 𝓤 (𝓣 .C callee) (tripleOf 𝓤 H A (Thin .signature) (closing 𝓤 H A Thin d))
         → Meets 𝓤 H A (ByValue .signature) (WpFn 𝓤 H (𝓣 .C) (𝓣 .Λ) (lending m callee (X .here .ty))) (closing 𝓤 H A ByValue c)
     meets 𝓣 callee known =
-        walk-meets 𝓤 H A ByValue stayed W goes c (WpFn 𝓤 H (𝓣 .C) (𝓣 .Λ) (lending m callee (X .here .ty))) (WpFn-mono 𝓤 H (W .laws) 𝓣 (lending m callee (X .here .ty)))
-        (walked 𝓤 H A ByValue stayed c (WpFn 𝓤 H (𝓣 .C) (𝓣 .Λ) (lending m callee (X .here .ty))) (λ κs. (LL.vals T.the-type T′.the-laws, ((λ x. X .here .val κs x ∷ []), tt)))
+        walk-meets 𝓤 H A ByValue stayed W goes c (WpFn 𝓤 H (𝓣 .C) (𝓣 .Λ) (lending m callee (X .here .ty)))
+        (WpFn-mono 𝓤 H (W .laws) 𝓣 (lending m callee (X .here .ty)))
+        (walked 𝓤 H A ByValue stayed c (WpFn 𝓤 H (𝓣 .C) (𝓣 .Λ) (lending m callee (X .here .ty)))
+        (λ κs. (LL.vals T.the-type T′.the-laws, ((λ x. X .here .val κs x ∷ []), tt)))
         (λ κs. (LL.tells T.the-type T′.the-laws, (X .here .tells κs, tt)))
         (λ κs qs bounds a g are. walk (𝓣 .C) (𝓣 .Λ) (fmOf 𝓤 H (W .laws) 𝓣) callee known κs qs a g (are .0) (are .1 .0)))
 
   -- a caller's theorem: its routine is this code, and the thin form's theorem is known
-  pub lent : {M : Type 1} (𝓤 : URA M) (H : Heap 𝓤) (𝓜 : Model 𝓤 H) (𝓖 : GhostRules 𝓤 H) (𝓡 : Running 𝓤 H 𝓜) (c : Clauses 𝓤 ByValue) (d : Clauses 𝓤 Thin) → Asks 𝓤 c d → Says 𝓤 c d
+  pub lent : {M : Type 1} (𝓤 : URA M) (H : Heap 𝓤) (𝓜 : Model 𝓤 H) (𝓖 : GhostRules 𝓤 H)
+      (𝓡 : Running 𝓤 H 𝓜) (c : Clauses 𝓤 ByValue) (d : Clauses 𝓤 Thin) → Asks 𝓤 c d → Says 𝓤 c d
       → Raised 𝓤 H 𝓜 𝓖 𝓡 ByValue Thin c d (λ callee. lending m callee (X .here .ty))
-  lent 𝓤 H 𝓜 𝓖 𝓡 c d asks says = raised 𝓤 H 𝓜 𝓖 𝓡 ByValue Thin c d (λ callee. lending m callee (X .here .ty)) (meets 𝓤 H (𝓖 .A) (givenOf 𝓤 H 𝓜 𝓖) c d asks says)
+  lent 𝓤 H 𝓜 𝓖 𝓡 c d asks says =
+      raised 𝓤 H 𝓜 𝓖 𝓡 ByValue Thin c d (λ callee. lending m callee (X .here .ty)) (meets 𝓤 H (𝓖 .A) (givenOf 𝓤 H 𝓜 𝓖) c d asks says)

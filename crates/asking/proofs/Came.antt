@@ -37,7 +37,8 @@ module _ {came : Came} {reference alternative : List ℕ} where
   stops e = rw e (record { reached = refl; referenceBuffer = refl; alternativeBuffer = refl })
 
   pub answers : {request : definition.Request} {outcome : definition-outcome.Outcome} {reference′ alternative′ : List ℕ} → came ≡ handed request
-      → Met (verdict request) outcome reference reference′ alternative alternative′ → Answers came (Outcome outcome) reference reference′ alternative alternative′
+      → Met (verdict request) outcome reference reference′ alternative alternative′
+      → Answers came (Outcome outcome) reference reference′ alternative alternative′
   answers e m = rw e (record { reached = ap Outcome (m .numbers); referenceBuffer = m .referenceBuffer; alternativeBuffer = m .alternativeBuffer })
 
 -- what a request comes to on its target, by what its exons come to
@@ -58,7 +59,8 @@ module _ (text : List ℕ) (request : Request) (start end : ℕ) (letters : List
   with-table e = rw (sym are ∙ e)
 
 -- and on its range, by what its target comes to
-module _ (text : List ℕ) (request : Request) (start end : ℕ) (file : File) (bytes : List ℕ) (referenceRoom alternativeRoom : ℕ) {room : ℕ} (long : room ≡ 65536)
+module _ (text : List ℕ) (request : Request) (start end : ℕ) (file : File) (bytes : List ℕ) (referenceRoom alternativeRoom : ℕ)
+    {room : ℕ} (long : room ≡ 65536)
     {read : Target} (is : read ≡ targetOf room (sourceOf text (request .words .target) (request .words .file) file bytes)) where
   pub unread : {why : Unread} → read ≡ target.Unread why
       → onRange text request start end file bytes referenceRoom alternativeRoom ≡ stopped (UnreadTarget why)
@@ -66,8 +68,8 @@ module _ (text : List ℕ) (request : Request) (start end : ℕ) (file : File) (
   unread e = rw (sym (rw long at is) ∙ e)
 
   -- its letters stand at the front of the buffer, and the request goes on with them
-  pub with-letters : (buffer : List ℕ) {buffer′ part : List ℕ} {size : ℕ} {r : Reached} {reference reference′ alternative alternative′ : List ℕ} → room ≡ length buffer
-      → read ≡ target.Letters size → buffer′ ≡ laid (sourceOf text (request .words .target) (request .words .file) file bytes) buffer
+  pub with-letters : (buffer : List ℕ) {buffer′ part : List ℕ} {size : ℕ} {r : Reached} {reference reference′ alternative alternative′ : List ℕ}
+      → room ≡ length buffer → read ≡ target.Letters size → buffer′ ≡ laid (sourceOf text (request .words .target) (request .words .file) file bytes) buffer
       → part ≡ partOf buffer′ 0 size
       → Answers (onTarget text request start end part referenceRoom alternativeRoom) r reference reference′ alternative alternative′
       → Answers (onRange text request start end file bytes referenceRoom alternativeRoom) r reference reference′ alternative alternative′

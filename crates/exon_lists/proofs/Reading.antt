@@ -50,7 +50,8 @@ sized size next (some eight) e = go (leb 4104 size) refl
         rw t g
 
 module _ (list table : List ℕ) {then : List ℕ} {size from : ℕ} (at : Reading list table then size from)
-    {comma : ℕ} {part last : List ℕ} {came : Exons} (is-comma : comma ≡ foundAt list from 44) (inside : comma ≤ length list) (is-part : part ≡ partOf list from comma)
+    {comma : ℕ} {part last : List ℕ} {came : Exons} (is-comma : comma ≡ foundAt list from 44) (inside : comma ≤ length list)
+    (is-part : part ≡ partOf list from comma)
     (is-came : came ≡ pairCame size (pairBytes part)) (is-last : last ≡ laidAt size (pairPut size (pairBytes part)) then) where
   abbrev more : List ℕ
   more = at .taken ++ pairPut size (pairBytes part)

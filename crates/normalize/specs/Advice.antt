@@ -32,7 +32,8 @@ adviceText BadInsertion = ascii "Give an insertion's two flanking bases as its r
 adviceText TooLong = ascii "Give a range and an alternative of at most 1024 bases each."
 adviceText BadAllele = ascii "Give an alternative of the letters A, C, G and T only, in upper case."
 adviceText NoRoom = ascii "Give answer buffers of at least 1025 bytes each."
-adviceText BadTables = ascii "Give 1 to 512 exons in order that don't overlap, the last one ending at the target's end, and CDS bounds inside the target, the start at or before the end."
+adviceText BadTables =
+    ascii "Give 1 to 512 exons in order that don't overlap, the last one ending at the target's end, and CDS bounds inside the target, the start at or before the end."
 adviceText ExonNotFoundForStart = ascii "Give a range that starts in an exon."
 adviceText ExonNotFoundForEnd = ascii "Give a range whose last base is in an exon."
 adviceText ExonIntronBoundary = ascii "Give a range inside one exon, or the kind crossing."

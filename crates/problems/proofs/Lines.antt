@@ -54,6 +54,6 @@ module _ (text quotes sentences : List ℕ)
   at-number BadExons = bad-exons
   at-number TooManyExons = too-many-exons
 
-  pub sentence : {quote line option : List ℕ} {number : ℕ} (p : Problem) → number ≡ lineNumber p → Line quotes number quote → option ≡ wordAt text (placeOf p)
-      → Line sentences number line → quote ++ mentioned number option ++ line ≡ problemText text p
+  pub sentence : {quote line option : List ℕ} {number : ℕ} (p : Problem) → number ≡ lineNumber p → Line quotes number quote
+      → option ≡ wordAt text (placeOf p) → Line sentences number line → quote ++ mentioned number option ++ line ≡ problemText text p
   sentence p is-number is-quote is-option is-line = rw (is-quote .is, is-line .is, is-number, is-option) (at-number p)

@@ -32,8 +32,8 @@ module _ (text : List ℕ) (at : ℕ) {word : List ℕ} {name : Name} {values : 
       unfolding withNext
       no-value end = rw (ne-eqb _ _ (λ e. known (counted ∙ e)), eq-eqb _ _ (sym is-value ∙ end))
 
-      pub taken : (value ≡ length text → ⊥) → {next : ℕ} {first second : List ℕ} {step : Step} → first ≡ wordAt text value → next ≡ afterFound text value 0
-          → second ≡ wordAt text next → step ≡ withOption asked name first second value → step ≡ withNext asked text at
+      pub taken : (value ≡ length text → ⊥) → {next : ℕ} {first second : List ℕ} {step : Step} → first ≡ wordAt text value
+          → next ≡ afterFound text value 0 → second ≡ wordAt text next → step ≡ withOption asked name first second value → step ≡ withNext asked text at
       unfolding withNext
       taken inside is-first is-next is-second is-step =
           is-step

@@ -5,7 +5,8 @@ use mathlib.Core.Bool.{cond}
 use mathlib.Core.List.{List, [], _∷_}
 use Rattle.definition.specs.Bases.{sameBases}
 use Rattle.requests.specs.declared.names.Name.{Name}
-use Rattle.requests.specs.declared.names.Name.the-variants.{Target, File, Exons, Alternative, Kind, Edit, Direction, Window, CdsStart, CdsEnd, Cds, Range, Unknown}
+use Rattle.requests.specs.declared.names.Name.the-variants.{Target, File, Exons, Alternative, Kind, Edit, Direction, Window}
+use Rattle.requests.specs.declared.names.Name.the-variants.{CdsStart, CdsEnd, Cds, Range, Unknown}
 use Rattle.text.specs.Text.{ascii}
 use Rattle.decimals.specs.declared.Number.{Number}
 use Rattle.decimals.specs.declared.Number.the-variants.{Is, Bad}

@@ -9,14 +9,16 @@ use Rattle.text.specs.Text.{afterFound}
 use Rattle.lines.specs.Lines.{wordAt}
 use Rattle.requests.specs.Names.{nameOf, kindCode, editCode, directionCode}
 use Rattle.requests.specs.declared.names.Name.{Name}
-use Rattle.requests.specs.declared.names.Name.the-variants.{Target, File, Exons, Alternative, Kind, Edit, Direction, Window, CdsStart, CdsEnd, Cds, Range, Unknown}
+use Rattle.requests.specs.declared.names.Name.the-variants.{Target, File, Exons, Alternative, Kind, Edit, Direction, Window}
+use Rattle.requests.specs.declared.names.Name.the-variants.{CdsStart, CdsEnd, Cds, Range, Unknown}
 use Rattle.requests.specs.declared.Request.{Request}
 use Rattle.requests.specs.declared.Fault.the-variants.{UnknownOption, NoValue}
 use Rattle.requests.specs.declared.Step.{Step}
 use Rattle.requests.specs.declared.Step.the-variants.{Next, Wrong}
 use Rattle.requests.specs.declared.Asked.{Asked}
 use Rattle.requests.specs.declared.Asked.the-variants.{Whole, Broken}
-use Rattle.requests.specs.Request.{nothing, withTarget, withFile, withExons, withAlternative, withKind, withEdit, withDirection, withWindow, withCdsStart, withCdsEnd, withCds, withRange}
+use Rattle.requests.specs.Request.{nothing, withTarget, withFile, withExons, withAlternative, withKind, withEdit, withDirection, withWindow}
+use Rattle.requests.specs.Request.{withCdsStart, withCdsEnd, withCds, withRange}
 
 -- what an option leaves of a request, with its word and the word after it, the first of which begins at an index
 abbrev pub withOption : Request → Name → List ℕ → List ℕ → ℕ → Step

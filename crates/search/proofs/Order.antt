@@ -73,8 +73,8 @@ ends-later before (suc k) (y ∷ l) x xs o next =
     omega (arith, starts-after before y l o, ends-after before y l o, ends-later (y .end .0) k l x xs (rest-in-order before y l o) next)
 
 -- where the exon at place k ends at or before the base, so do all before it
-pub held-behind : (p before k : ℕ) (l : List Exon) (x : Exon) (xs : List Exon) → exonsInOrder before l ≡ true → drop k l ≡ x ∷ xs → x .end .0 ≤ p
-    → exonHolding p l ≡ exonHolding p xs
+pub held-behind : (p before k : ℕ) (l : List Exon) (x : Exon) (xs : List Exon) → exonsInOrder before l ≡ true → drop k l ≡ x ∷ xs
+    → x .end .0 ≤ p → exonHolding p l ≡ exonHolding p xs
 held-behind p before zero l x xs o next h = held-after p x xs l next h
 held-behind p before (suc k) [] x xs o next h =
     let z : _≡_ {A = ℕ} 0 1 = cc in
@@ -101,7 +101,8 @@ exon-within p before [] o x e =
 exon-within p before (y ∷ xs) o x e =
     go (leb (y .start .0) p && ltb p (y .end .0)) refl (exon-within p (y .end .0) xs (rest-in-order before y xs o) x)
   where
-    go : (b : Bool) → (leb (y .start .0) p && ltb p (y .end .0)) ≡ b → (exonHolding p xs ≡ Holding x → x .end .0 ≤ lastEnd (y .end .0) xs) → x .end .0 ≤ lastEnd (y .end .0) xs
+    go : (b : Bool) → (leb (y .start .0) p && ltb p (y .end .0)) ≡ b → (exonHolding p xs ≡ Holding x → x .end .0 ≤ lastEnd (y .end .0) xs)
+        → x .end .0 ≤ lastEnd (y .end .0) xs
     go true t rest =
         let f : Holding y ≡ Holding x = rw t at e in
         let g : y ≡ x = cc in

@@ -45,8 +45,8 @@ module _ (byte : ℕ) where
           let z : suc (indexOf byte xs) < suc (length xs) = rw t at h in
           rw t (ap (onFirst x) (rest (omega arith)))
 
-module _ (byte : ℕ) (list : List ℕ) {from end : ℕ} {part : List ℕ} (h : from ≤ length list) (is-end : end ≡ foundAt list from byte) (within : end ≤ length list)
-    (is-part : part ≡ partOf list from end) where
+module _ (byte : ℕ) (list : List ℕ) {from end : ℕ} {part : List ℕ} (h : from ≤ length list) (is-end : end ≡ foundAt list from byte)
+    (within : end ≤ length list) (is-part : part ≡ partOf list from end) where
   there : end ≡ from + indexOf byte (drop from list)
   there = ends-at byte list h is-end
 

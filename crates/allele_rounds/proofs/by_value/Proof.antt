@@ -10,7 +10,8 @@ use Rattle.allele_rounds.proofs.by_value.Statement.{statement}
 use Rattle.allele_rounds.proofs.by_value.Tie as tie
 
 abbrev Inv-loop : tie.InvT-loop
-Inv-loop rounds reference₀ alternative₀ shared₀ i₀ t10 t11 reference alternative shared i = (i ≤ rounds) × (rounds ≤ 4294967295) × Good reference × (reference .count ≡ 1) × Good alternative × (alternative .count ≡ 0)
+Inv-loop rounds reference₀ alternative₀ shared₀ i₀ t10 t11 reference alternative shared i =
+    (i ≤ rounds) × (rounds ≤ 4294967295) × Good reference × (reference .count ≡ 1) × Good alternative × (alternative .count ≡ 0)
 
 abbrev μ-loop : tie.MeasureT-loop
 μ-loop rounds reference₀ alternative₀ shared₀ i₀ t10 t11 reference alternative shared i = rounds - i
@@ -45,9 +46,11 @@ trim-front-requires c κs = search needs
 keep-front-requires : tie.Need-keep-front-requires Inv-loop μ-loop
 keep-front-requires c κs =
     let t = c .trim-front .ensures in
-    let pushed = c .before .push-back2 .result in
+    let first = c .before .before .before .push-back .result in
+    let second = c .before .push-back2 .result in
+    let long = window-length (second .bytes) (second .head) (second .count) in
     let fits : c .trim-front .result .count ≤ 20 =
-    omega (arith, t .count, lcp-le-right (held (c .before .before .before .push-back .result)) (held pushed), window-length (pushed .bytes) (pushed .head) (pushed .count), c .before .push-back2 .ensures .count) in
+    omega (arith, t .count, lcp-le-right (held first) (held second), long, c .before .push-back2 .ensures .count) in
     (t .left .good, omega (arith, fits, t .left .count))
 
 keep-front-requires-2 : tie.Need-keep-front-requires-2 Inv-loop μ-loop

@@ -15,9 +15,9 @@ enum-known-request c = search needs
 
 returns : tie.Need-returns
 returns c =
-    let s = c .before .before .before .before .before .before .before .before .before .before in
-    let at = s .args in
-    stops (no-edit (at .text .now) (at .file) (at .bytes .now) _ _ (c .before .before .before .before .before .request-of .ensures) (c .before .before .before .request .given .1) (c .if1 .taken))
+    let matched = c .before .before .before in
+    let asked = matched .before .before .request-of .ensures in
+    stops (no-edit _ _ _ _ _ asked (matched .request .given .1) (c .if1 .taken))
 
 enum-known-range : tie.Need-enum-known-range
 enum-known-range c = search needs
@@ -27,18 +27,17 @@ enum-told c = search needs
 
 returns-2 : tie.Need-returns-2
 returns-2 c =
-    let s = c .before .before .before .before .before .before .before .before .before .before .before .before in
-    let at = s .args in
-    stops (no-range (at .text .now) (at .file) (at .bytes .now) _ _ (c .before .before .before .before .before .before .before .request-of .ensures) (c .before .before .before .before .before .request .given .1) (c .before .before .if1 .left) (c .enum-told .given .1))
+    let after1 = c .before .before in
+    let matched = after1 .before .before .before in
+    let asked = matched .before .before .request-of .ensures in
+    stops (no-range _ _ _ _ _ asked (matched .request .given .1) (after1 .if1 .left) (c .enum-told .given .1))
 
 ask-on-range-requires : tie.Need-ask-on-range-requires
 ask-on-range-requires c κs = search needs
 
 returns-3 : tie.Need-returns-3
 returns-3 c =
-    let s = c .before .before .before .before .before .before .before .before in
-    let at = s .args in
-    stops (broken (at .text .now) (at .file) (at .bytes .now) _ _ (c .before .before .before .request-of .ensures) (c .before .fault .given .1))
+    stops (broken _ _ _ _ _ (c .before .before .before .request-of .ensures) (c .before .fault .given .1))
 
 same-length : tie.Need-same-length
 same-length c = search needs
@@ -48,10 +47,14 @@ same-length-2 c = search needs
 
 returns-4 : tie.Need-returns-4
 returns-4 c =
-    let s = c .before .before .before .before .before .before .before .before .before .before .before .before .before .before .before .before .before .before .before .before in
-    let at = s .args in
-    rw (with-range (at .text .now) (at .file) (at .bytes .now) _ _ (c .before .before .before .before .before .before .before .before .before .before .before .before .before .before .before .request-of .ensures) (c .before .before .before .before .before .before .before .before .before .before .before .before .before .request .given .1) (c .before .before .before .before .before .before .before .before .before .before .if1 .left) (c .before .before .before .before .before .before .before .before .range .given .1))
-    (c .before .before .before .before .ask-on-range .ensures)
+    let ranged = c .before .before .before .before .before .before .before .before in
+    let after1 = ranged .before .before in
+    let matched = after1 .before .before .before in
+    let asked = matched .before .before .request-of .ensures in
+    let whole = matched .request .given .1 in
+    let edits = after1 .if1 .left in
+    let range = ranged .range .given .1 in
+    rw (with-range _ _ _ _ _ asked whole edits range) (c .before .before .before .before .ask-on-range .ensures)
 
 pub ask-spec : {M : Type 1} → statement M
 ask-spec =

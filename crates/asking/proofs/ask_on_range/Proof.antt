@@ -34,18 +34,21 @@ same-length-2 c = search needs
 
 returns : tie.Need-returns
 returns c =
-    let s = c .before .before .before .before .before .before .before .before .before .before .before .before .before .before .before .before .before .before in
-    let at = s .before .before .before .before .before .args in
-    let read = c .before .before .before .before .before .before .before .before .before .before .before .before .before .before .before .read .ensures in
-    let long = s .target-room .ensures in
-    with-letters (at .text .now) (at .request) (at .start) (at .end) (at .file) (at .bytes .now) _ _ long (read .0) _ refl (c .before .before .before .before .before .before .before .before .before .before .before .size .given .1) (read .1)
-    (c .before .before .before .before .before .before .before .before .part .ensures) (c .before .before .before .before .before .ask-on-target .ensures)
+    let parted = c .before .before .before .before .before .before .before .before in
+    let matched = parted .before .before .before in
+    let read = matched .before .before .before .before .read .ensures in
+    let s = matched .before .before .before .before .before .before .before in
+    let a = s .before .before .before .before .before .args in
+    let answered = c .before .before .before .before .before .ask-on-target .ensures in
+    with-letters (a .text .now) (a .request) (a .start) (a .end) (a .file) (a .bytes .now) _ _ (s .target-room .ensures) (read .0) _ refl (matched .size .given .1)
+    (read .1) (parted .part .ensures) answered
 
 returns-2 : tie.Need-returns-2
 returns-2 c =
-    let s = c .before .before .before .before .before .before .before .before .before in
-    let at = s .before .before .before .before .before .args in
-    stops (unread (at .text .now) (at .request) (at .start) (at .end) (at .file) (at .bytes .now) _ _ (s .target-room .ensures) (c .before .before .before .before .before .before .read .ensures .0) (c .before .before .unread .given .1))
+    let read = c .before .before .before .before .before .before in
+    let s = read .before .before .before in
+    let why = c .before .before .unread .given .1 in
+    stops (unread _ _ _ _ _ _ _ _ (s .target-room .ensures) (read .read .ensures .0) why)
 
 pub ask-on-range-spec : {M : Type 1} → statement M
 ask-on-range-spec =

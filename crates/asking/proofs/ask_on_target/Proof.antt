@@ -33,15 +33,13 @@ hand-requires c κs = search needs
 
 returns : tie.Need-returns
 returns c =
-    let s = c .before .before .before .before .before .before .before .before .before .before .before .before in
-    let at = s .args in
-    stops (bad-exons (at .text .now) (at .request) (at .start) (at .end) (at .target .now) _ _ (c .before .before .before .before .before .exons-at .ensures .0) (c .before .enum-told .given .1))
+    let exons = c .before .before .before .before .before .exons-at .ensures in
+    stops (bad-exons _ _ _ _ _ _ _ (exons .0) (c .before .enum-told .given .1))
 
 returns-2 : tie.Need-returns-2
 returns-2 c =
-    let s = c .before .before .before .before .before .before .before .before .before .before .before .before in
-    let at = s .args in
-    stops (too-many (at .text .now) (at .request) (at .start) (at .end) (at .target .now) _ _ (c .before .before .before .before .before .exons-at .ensures .0) (c .before .enum-told2 .given .1))
+    let exons = c .before .before .before .before .before .exons-at .ensures in
+    stops (too-many _ _ _ _ _ _ _ (exons .0) (c .before .enum-told2 .given .1))
 
 same-length : tie.Need-same-length
 same-length c = search needs
@@ -51,14 +49,15 @@ same-length-2 c = search needs
 
 returns-3 : tie.Need-returns-3
 returns-3 c =
-    let at = c .before .before .before .before .before .before .before .before .before .before .before .before .before .before .before .before .before .before .before .before .before .before .args in
-    let exons = c .before .before .before .before .before .before .before .before .before .before .before .before .before .before .before .exons-at .ensures in
-    let size = c .before .before .before .before .before .before .before .before .before .before .before .size .given in
-    let bytes = c .before .before .before .before .before .before .before .before .part .ensures
-    ∙ ap (λ (table : List ℕ). partOf table 0 (size .0 .0)) (exons .1)
-    ∙ table-front (at .text .now) (at .request .words .exons) (replicate 4104 0) (length-replicate {A = ℕ} 4104 0) (exons .0) (size .1)
-    in
-    answers (with-table (at .text .now) (at .request) (at .start) (at .end) (at .target .now) _ _ (exons .0) (size .1))
+    let parted = c .before .before .before .before .before .before .before .before in
+    let matched = parted .before .before .before in
+    let read = matched .before .before .before .before in
+    let a = read .before .before .before .before .before .before .before .args in
+    let exons = read .exons-at .ensures in
+    let size = matched .size .given in
+    let front = table-front (a .text .now) (a .request .words .exons) (replicate 4104 0) (length-replicate {A = ℕ} 4104 0) (exons .0) (size .1) in
+    let bytes = parted .part .ensures ∙ ap (λ (table : List ℕ). partOf table 0 (size .0 .0)) (exons .1) ∙ front in
+    answers (with-table (a .text .now) (a .request) (a .start) (a .end) (a .target .now) _ _ (exons .0) (size .1))
     (rw bytes at (c .before .before .before .before .before .hand .ensures))
 
 pub ask-on-target-spec : {M : Type 1} → statement M

@@ -7,7 +7,9 @@ use Rattle.asking.proofs.exons_at.Statement.{statement}
 use Rattle.asking.proofs.exons_at.Tie as tie
 
 returns : tie.Need-returns
-returns c = rw (no-exons (c .before .before .before .args .text .now) (c .if1 .taken)) (refl, sym (laid-nothing 0 (c .before .before .before .args .table .now)))
+returns c =
+    let a = c .before .before .before .args in
+    rw (no-exons (a .text .now) (c .if1 .taken)) (refl, sym (laid-nothing 0 (a .table .now)))
 
 word-requires : tie.Need-word-requires
 word-requires c κs = search needs
@@ -19,7 +21,11 @@ same-length : tie.Need-same-length
 same-length c = search needs
 
 returns-2 : tie.Need-returns-2
-returns-2 c = rw (some-exons (c .before .before .before .before .before .before .before .before .args .text .now) (c .before .before .before .before .before .if1 .left)) (rw (c .before .before .before .before .word .ensures) at (c .before .before .read-exons .ensures))
+returns-2 c =
+    let word = c .before .before .before .before in
+    let after1 = word .before in
+    let a = after1 .before .before .before .args in
+    rw (some-exons (a .text .now) (after1 .if1 .left)) (rw (word .word .ensures) at (c .before .before .read-exons .ensures))
 
 pub exons-at-spec : {M : Type 1} → statement M
 exons-at-spec =

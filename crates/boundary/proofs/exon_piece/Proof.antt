@@ -34,14 +34,17 @@ returns-3 c =
 returns-4 : tie.Need-returns-4
 unfolding exonPiece
 returns-4 c =
-    let both = c .before .before .before .before .before .before .before in
-    simp (both .before .before .before .first .given .1, both .last .given .1, eq-eqb _ _ (c .before .before .before .if1 .left), ne-eqb _ _ (c .if2 .taken))
+    let after1 = c .before .before .before in
+    let both = after1 .before .before .before .before in
+    simp (both .before .before .before .first .given .1, both .last .given .1, eq-eqb _ _ (after1 .if1 .left), ne-eqb _ _ (c .if2 .taken))
 
 returns-5 : tie.Need-returns-5
 unfolding exonPiece
 returns-5 c =
-    let both = c .before .before .before .before .before .before .before .before .before in
-    simp (both .before .before .before .first .given .1, both .last .given .1, eq-eqb _ _ (c .before .before .before .before .before .if1 .left), eq-eqb _ _ (c .before .before .if2 .left))
+    let after2 = c .before .before in
+    let after1 = after2 .before .before .before in
+    let both = after1 .before .before .before .before in
+    simp (both .before .before .before .first .given .1, both .last .given .1, eq-eqb _ _ (after1 .if1 .left), eq-eqb _ _ (after2 .if2 .left))
 
 pub exon-piece-spec : {M : Type 1} → statement M
 exon-piece-spec =

@@ -1,4 +1,5 @@
--- `decimals::decimal` meets its contract. The invariant: what the word comes to is what the digits left make of the value. The measure is the digits left. Assumes nothing.
+-- `decimals::decimal` meets its contract. The invariant: what the word comes to is what the digits left make of the value. The measure is the digits
+-- left. Assumes nothing.
 use mathlib.Core.Path.{_≡_, sym, _∙_}
 use native.Mathlib.Omega.{arith}
 use Rattle.decimals.proofs.Digits.{no-digit, next, stopped, done}
@@ -36,8 +37,11 @@ enum-told c = search needs
 
 returns-2 : tie.Need-returns-2 Inv-loop μ-loop
 returns-2 c =
-    let at = c .before .before .before .before .before .loop in
-    stopped (c .before .before .before .before .before .before .before .before .args .word .now) (at .i) (at .value) (at .inv .1) (omega arith) (sym (c .before .before .appended .ensures) ∙ c .enum-told .given .1)
+    let appended = c .before .before in
+    let looped = appended .before .before .before in
+    let at = looped .loop in
+    let bad = sym (appended .appended .ensures) ∙ c .enum-told .given .1 in
+    stopped (looped .before .before .before .args .word .now) (at .i) (at .value) (at .inv .1) (omega arith) bad
 
 add-i : tie.Need-add-i Inv-loop μ-loop
 add-i c = search needs
@@ -47,8 +51,11 @@ loop-less c = search needs
 
 loop-again : tie.Need-loop-again Inv-loop μ-loop
 loop-again c =
-    let at = c .before .before .before .before .before .before .loop in
-    (search needs, next (c .before .before .before .before .before .before .before .before .before .args .word .now) (at .i) (at .value) (at .inv .1) _ (omega arith) (sym (c .before .before .before .appended .ensures) ∙ c .before .next .given .1))
+    let appended = c .before .before .before in
+    let looped = appended .before .before .before in
+    let at = looped .loop in
+    let digit = sym (appended .appended .ensures) ∙ c .before .next .given .1 in
+    (search needs, next (looped .before .before .before .args .word .now) (at .i) (at .value) (at .inv .1) _ (omega arith) digit)
 
 returns-3 : tie.Need-returns-3 Inv-loop μ-loop
 returns-3 c =

@@ -27,8 +27,9 @@ enum-told c = search needs
 
 returns-2 : tie.Need-returns-2
 returns-2 c =
-    let found = c .before .before .before .before .before in
-    refused _ _ (numbers (found .before .before .before .args .pair .now) (found .find .ensures .0) (c .before .before .before .before .if1 .left) (c .before .before .before .part .ensures) refl (sym (c .enum-told .given .1) ∙ c .before .before .decimal .ensures) refl)
+    let after1 = c .before .before .before .before in
+    let start = sym (c .enum-told .given .1) ∙ c .before .before .decimal .ensures in
+    refused _ _ (numbers _ (after1 .before .find .ensures .0) (after1 .if1 .left) (c .before .before .before .part .ensures) refl start refl)
 
 add-part : tie.Need-add-part
 add-part c = search needs
@@ -47,21 +48,27 @@ enum-told-2 c = search needs
 
 returns-3 : tie.Need-returns-3
 returns-3 c =
-    let found = c .before .before .before .before .before .before .before .before .before .before in
-    let first = c .before .before .before .before .before .before .before in
     let second = c .before .before in
-    let bytes = numbers (found .before .before .before .args .pair .now) (found .find .ensures .0) (c .before .before .before .before .before .before .before .before .before .if1 .left) (first .before .part .ensures) (second .before .part2 .ensures) (sym (c .before .before .before .before .before .start .given .1) ∙ first .decimal .ensures) (sym (c .enum-told2 .given .1) ∙ second .decimal2 .ensures) in
-    refused _ _ bytes
+    let started = second .before .before .before in
+    let first = started .before .before in
+    let after1 = first .before .before in
+    let start = sym (started .start .given .1) ∙ first .decimal .ensures in
+    let end = sym (c .enum-told2 .given .1) ∙ second .decimal2 .ensures in
+    refused _ _ (numbers _ (after1 .before .find .ensures .0) (after1 .if1 .left) (first .before .part .ensures) (second .before .part2 .ensures) start end)
 
 mul-if2 : tie.Need-mul-if2
 mul-if2 c = search needs
 
 returns-4 : tie.Need-returns-4
 returns-4 c =
-    let found = c .before .before .before .before .before .before .before .before .before .before .before .before in
-    let first = c .before .before .before .before .before .before .before .before .before in
-    let second = c .before .before .before .before in
-    let bytes = numbers (found .before .before .before .args .pair .now) (found .find .ensures .0) (c .before .before .before .before .before .before .before .before .before .before .before .if1 .left) (first .before .part .ensures) (second .before .part2 .ensures) (sym (c .before .before .before .before .before .before .before .start .given .1) ∙ first .decimal .ensures) (sym (c .before .before .end .given .1) ∙ second .decimal2 .ensures) in
+    let ended = c .before .before in
+    let second = ended .before .before in
+    let started = second .before .before .before in
+    let first = started .before .before in
+    let after1 = first .before .before in
+    let start = sym (started .start .given .1) ∙ first .decimal .ensures in
+    let end = sym (ended .end .given .1) ∙ second .decimal2 .ensures in
+    let bytes = numbers _ (after1 .before .find .ensures .0) (after1 .if1 .left) (first .before .part .ensures) (second .before .part2 .ensures) start end in
     no-room _ _ bytes (omega arith)
 
 put-little-endian-requires : tie.Need-put-little-endian-requires
@@ -82,11 +89,18 @@ same-length c = search needs
 returns-5 : tie.Need-returns-5
 unfolding fourBytes
 returns-5 c =
-    let found = c .before .before .before .before .before .before .before .before .before .before .before .before .before .before .before .before .before .before .before .before in
-    let first = c .before .before .before .before .before .before .before .before .before .before .before .before .before .before .before .before .before in
-    let second = c .before .before .before .before .before .before .before .before .before .before .before .before in
-    let bytes = numbers (found .before .before .before .args .pair .now) (found .find .ensures .0) (c .before .before .before .before .before .before .before .before .before .before .before .before .before .before .before .before .before .before .before .if1 .left) (first .before .part .ensures) (second .before .part2 .ensures) (sym (c .before .before .before .before .before .before .before .before .before .before .before .before .before .before .before .start .given .1) ∙ first .decimal .ensures) (sym (c .before .before .before .before .before .before .before .before .before .before .end .given .1) ∙ second .decimal2 .ensures) in
-    taken-up _ _ bytes (omega (arith, c .before .before .before .before .before .before .before .before .if2 .left)) (eight-put _ _ _ _ (c .before .before .before .before .before .before .put-little-endian .ensures) (c .before .before .put-little-endian2 .ensures))
+    let put = c .before .before .before .before .before .before in
+    let after2 = put .before .before in
+    let ended = after2 .before .before in
+    let second = ended .before .before in
+    let started = second .before .before .before in
+    let first = started .before .before in
+    let after1 = first .before .before in
+    let start = sym (started .start .given .1) ∙ first .decimal .ensures in
+    let end = sym (ended .end .given .1) ∙ second .decimal2 .ensures in
+    let bytes = numbers _ (after1 .before .find .ensures .0) (after1 .if1 .left) (first .before .part .ensures) (second .before .part2 .ensures) start end in
+    let both = eight-put _ _ _ _ (put .put-little-endian .ensures) (c .before .before .put-little-endian2 .ensures) in
+    taken-up _ _ bytes (omega (arith, after2 .if2 .left)) both
 
 pub put-exon-spec : {M : Type 1} → statement M
 put-exon-spec =

@@ -41,7 +41,11 @@ same-length : tie.Need-same-length
 same-length c = search needs
 
 returns : tie.Need-returns
-returns c = four-put _ _ _ (c .before .before .before .before .before .before .before .before .before .before .before .before .before .before .put-at .ensures) (c .before .before .before .before .before .before .before .before .before .before .put-at2 .ensures) (c .before .before .before .before .before .before .put-at3 .ensures) (c .before .before .put-at4 .ensures)
+returns c =
+    let third = c .before .before .before .before .before .before in
+    let second = third .before .before .before .before in
+    let first = second .before .before .before .before in
+    four-put _ _ _ (first .put-at .ensures) (second .put-at2 .ensures) (third .put-at3 .ensures) (c .before .before .put-at4 .ensures)
 
 pub put-little-endian-spec : {M : Type 1} → statement M
 put-little-endian-spec =

@@ -33,48 +33,55 @@ enum-told c = search needs
 
 same-length : tie.Need-same-length Inv-loop μ-loop
 same-length c =
-    let put = c .before .before .before .before .put-exon .ensures in
-    let found = c .before .before .before .before .before .before .before .find .ensures in
-    let at = c .before .before .before .before .before .before .before .before .before .loop .inv in
-    long-still _ _ at (found .0) (found .1 .0) (c .before .before .before .before .before .before .part .ensures) (put .0) (put .1)
+    let put = c .before .before .before .before in
+    let parted = put .before .before in
+    let found = parted .before .find .ensures in
+    let at = parted .before .before .before .loop .inv in
+    long-still _ _ at (found .0) (found .1 .0) (parted .part .ensures) (put .put-exon .ensures .0) (put .put-exon .ensures .1)
 
 returns : tie.Need-returns Inv-loop μ-loop
 returns c =
-    let put = c .before .before .before .before .put-exon .ensures in
-    let found = c .before .before .before .before .before .before .before .find .ensures in
-    let at = c .before .before .before .before .before .before .before .before .before .loop .inv in
-    bad _ _ at (found .0) (found .1 .0) (c .before .before .before .before .before .before .part .ensures) (put .0) (put .1) (c .enum-told .given .1)
+    let put = c .before .before .before .before in
+    let parted = put .before .before in
+    let found = parted .before .find .ensures in
+    let at = parted .before .before .before .loop .inv in
+    bad _ _ at (found .0) (found .1 .0) (parted .part .ensures) (put .put-exon .ensures .0) (put .put-exon .ensures .1) (c .enum-told .given .1)
 
 enum-told-2 : tie.Need-enum-told-2 Inv-loop μ-loop
 enum-told-2 c = search needs
 
 same-length-2 : tie.Need-same-length-2 Inv-loop μ-loop
 same-length-2 c =
-    let put = c .before .before .before .before .put-exon .ensures in
-    let found = c .before .before .before .before .before .before .before .find .ensures in
-    let at = c .before .before .before .before .before .before .before .before .before .loop .inv in
-    long-still _ _ at (found .0) (found .1 .0) (c .before .before .before .before .before .before .part .ensures) (put .0) (put .1)
+    let put = c .before .before .before .before in
+    let parted = put .before .before in
+    let found = parted .before .find .ensures in
+    let at = parted .before .before .before .loop .inv in
+    long-still _ _ at (found .0) (found .1 .0) (parted .part .ensures) (put .put-exon .ensures .0) (put .put-exon .ensures .1)
 
 returns-2 : tie.Need-returns-2 Inv-loop μ-loop
 returns-2 c =
-    let put = c .before .before .before .before .put-exon .ensures in
-    let found = c .before .before .before .before .before .before .before .find .ensures in
-    let at = c .before .before .before .before .before .before .before .before .before .loop .inv in
-    many _ _ at (found .0) (found .1 .0) (c .before .before .before .before .before .before .part .ensures) (put .0) (put .1) (c .enum-told2 .given .1)
+    let put = c .before .before .before .before in
+    let parted = put .before .before in
+    let found = parted .before .find .ensures in
+    let at = parted .before .before .before .loop .inv in
+    many _ _ at (found .0) (found .1 .0) (parted .part .ensures) (put .put-exon .ensures .0) (put .put-exon .ensures .1) (c .enum-told2 .given .1)
 
 same-length-3 : tie.Need-same-length-3 Inv-loop μ-loop
 same-length-3 c =
-    let put = c .before .before .before .before .before .before .put-exon .ensures in
-    let found = c .before .before .before .before .before .before .before .before .before .find .ensures in
-    let at = c .before .before .before .before .before .before .before .before .before .before .before .loop .inv in
-    long-still _ _ at (found .0) (found .1 .0) (c .before .before .before .before .before .before .before .before .part .ensures) (put .0) (put .1)
+    let put = c .before .before .before .before .before .before in
+    let parted = put .before .before in
+    let found = parted .before .find .ensures in
+    let at = parted .before .before .before .loop .inv in
+    long-still _ _ at (found .0) (found .1 .0) (parted .part .ensures) (put .put-exon .ensures .0) (put .put-exon .ensures .1)
 
 returns-3 : tie.Need-returns-3 Inv-loop μ-loop
 returns-3 c =
-    let put = c .before .before .before .before .before .before .put-exon .ensures in
-    let found = c .before .before .before .before .before .before .before .before .before .find .ensures in
-    let at = c .before .before .before .before .before .before .before .before .before .before .before .loop .inv in
-    done _ _ at (found .0) (found .1 .0) (c .before .before .before .before .before .before .before .before .part .ensures) (put .0) (put .1) _ (c .before .before .next .given .1) (c .if1 .taken)
+    let put = c .before .before .before .before .before .before in
+    let parted = put .before .before in
+    let found = parted .before .find .ensures in
+    let at = parted .before .before .before .loop .inv in
+    let next = c .before .before .next .given .1 in
+    done _ _ at (found .0) (found .1 .0) (parted .part .ensures) (put .put-exon .ensures .0) (put .put-exon .ensures .1) _ next (c .if1 .taken)
 
 add-from : tie.Need-add-from Inv-loop μ-loop
 add-from c = search needs
@@ -84,10 +91,12 @@ loop-less c = search needs
 
 loop-again : tie.Need-loop-again Inv-loop μ-loop
 loop-again c =
-    let put = c .before .before .before .before .before .before .put-exon .ensures in
-    let found = c .before .before .before .before .before .before .before .before .before .find .ensures in
-    let at = c .before .before .before .before .before .before .before .before .before .before .before .loop .inv in
-    onward _ _ at (found .0) (found .1 .0) (c .before .before .before .before .before .before .before .before .part .ensures) (put .0) (put .1) _ (c .before .before .next .given .1) (omega arith)
+    let put = c .before .before .before .before .before .before in
+    let parted = put .before .before in
+    let found = parted .before .find .ensures in
+    let at = parted .before .before .before .loop .inv in
+    let next = c .before .before .next .given .1 in
+    onward _ _ at (found .0) (found .1 .0) (parted .part .ensures) (put .put-exon .ensures .0) (put .put-exon .ensures .1) _ next (omega arith)
 
 same-length-4 : tie.Need-same-length-4 Inv-loop μ-loop
 same-length-4 c = c .before .loop .inv .long

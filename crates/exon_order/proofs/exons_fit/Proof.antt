@@ -25,12 +25,14 @@ exon-at-requires c κs = omega arith
 returns : tie.Need-returns Inv-loop μ-loop
 returns c =
     let turn = c .before in
-    starts-early _ (turn .before .before .loop .before) (turn .exon-at .result) _ _ (turn .exon-at .ensures) (omega arith) ∙ turn .before .before .loop .inv .1
+    let at = turn .before .before .loop in
+    starts-early _ (at .before) (turn .exon-at .result) _ _ (turn .exon-at .ensures) (omega arith) ∙ at .inv .1
 
 returns-2 : tie.Need-returns-2 Inv-loop μ-loop
 returns-2 c =
     let turn = c .before .before in
-    ends-early _ (turn .before .before .loop .before) (turn .exon-at .result) _ _ (turn .exon-at .ensures) (omega arith) (omega arith) ∙ turn .before .before .loop .inv .1
+    let at = turn .before .before .loop in
+    ends-early _ (at .before) (turn .exon-at .result) _ _ (turn .exon-at .ensures) (omega arith) (omega arith) ∙ at .inv .1
 
 add-i : tie.Need-add-i Inv-loop μ-loop
 add-i c = omega arith
@@ -41,7 +43,8 @@ loop-less c = omega arith
 loop-again : tie.Need-loop-again Inv-loop μ-loop
 loop-again c =
     let turn = c .before .before in
-    (omega arith, sym (goes-on _ (turn .before .before .loop .before) (turn .exon-at .result) _ _ (turn .exon-at .ensures) (omega arith) (omega arith)) ∙ turn .before .before .loop .inv .1)
+    let at = turn .before .before .loop in
+    (omega arith, sym (goes-on _ (at .before) (turn .exon-at .result) _ _ (turn .exon-at .ensures) (omega arith) (omega arith)) ∙ at .inv .1)
 
 returns-3 : tie.Need-returns-3 Inv-loop μ-loop
 returns-3 c = rw (no-more (c .before .before .before .args .table .now) (c .before .loop .i) (c .loop-test .left)) at (c .before .loop .inv .1)

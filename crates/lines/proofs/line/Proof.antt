@@ -31,8 +31,11 @@ loop-less c = search needs
 
 loop-again : tie.Need-loop-again Inv-loop μ-loop
 loop-again c =
-    let at = c .before .before .loop in
-    (search needs, c .after .ensures .1 .0, next (c .before .before .before .before .args .text .now) _ (at .i) (at .from) (at .inv .2) (at .inv .1) _ (omega arith) (c .after .ensures .0))
+    let looped = c .before .before in
+    let a = looped .before .before .args in
+    let at = looped .loop in
+    let after = c .after .ensures in
+    (search needs, after .1 .0, next (a .text .now) _ (at .i) (at .from) (at .inv .2) (at .inv .1) _ (omega arith) (after .0))
 
 find-requires : tie.Need-find-requires Inv-loop μ-loop
 find-requires c κs = search needs
@@ -42,8 +45,12 @@ part-requires c κs = search needs
 
 returns : tie.Need-returns Inv-loop μ-loop
 returns c =
-    let at = c .before .before .before .loop in
-    record { is = c .part .ensures ∙ done (c .before .before .before .before .before .args .text .now) _ (at .i) (at .from) (at .inv .2) (at .inv .1) _ (omega arith) (c .before .find .ensures .0) (c .before .find .ensures .1 .0) }
+    let looped = c .before .before .before in
+    let a = looped .before .before .args in
+    let at = looped .loop in
+    let found = c .before .find .ensures in
+    let last = done (a .text .now) _ (at .i) (at .from) (at .inv .2) (at .inv .1) _ (omega arith) (found .0) (found .1 .0) in
+    record { is = c .part .ensures ∙ last }
 
 pub line-spec : {M : Type 1} → statement M
 line-spec =

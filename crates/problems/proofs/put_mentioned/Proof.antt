@@ -16,7 +16,9 @@ same-length : tie.Need-same-length
 same-length c = search needs
 
 returns-2 : tie.Need-returns-2
-returns-2 c = rw (le-ltb 2 (c .before .before .before .before .before .before .before .args .number) (omega (arith, c .before .before .before .before .if1 .left))) (c .before .before .put .ensures)
+returns-2 c =
+    let after1 = c .before .before .before .before in
+    rw (le-ltb 2 (after1 .before .before .before .args .number) (omega (arith, after1 .if1 .left))) (c .before .before .put .ensures)
 
 pub put-mentioned-spec : {M : Type 1} → statement M
 put-mentioned-spec = tie.close (tie.spec returns put-requires same-length returns-2)

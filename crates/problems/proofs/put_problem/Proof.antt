@@ -1,7 +1,7 @@
 -- `problems::put_problem` meets its contract: the three puts are one sentence, which the line of the problem is. Assumes nothing.
-use mathlib.Core.Path.{refl, ap, _∙_}
+use mathlib.Core.Path.{refl}
 use Rattle.terminal.proofs.Pages.{then, same-text}
-use Rattle.lines.specs.Lines.{wordAt, lineOf}
+use Rattle.lines.specs.Lines.{lineOf}
 use Rattle.problems.specs.Problems.{faultText, unreadText, problemText}
 use Rattle.problems.proofs.Lines.{sentence}
 use borrow.Author.Needs.{needs}
@@ -44,13 +44,19 @@ same-length c = search needs
 returns : tie.Need-returns
 unfolding lineOf faultText unreadText problemText
 returns c =
-    let at = c .before .before .before .before .before .before .before .before .before .before .before .before .before .before .before .before .before .before .before .before .before .args in
-    let number = c .before .before .before .before .before .before .before .before .before .before .before .before .before .before .before .before .before .before .line-number .ensures in
-    let option = c .before .before .before .before .before .before .before .before .before .before .before .before .before .before .before .before .word .ensures ∙ ap (wordAt (at .text .now)) (c .before .before .before .before .before .before .before .before .before .before .before .before .before .before .before .before .before .place-of .ensures) in
+    let mentioned = c .before .before .before .before .before .before .before .before in
+    let put = mentioned .before .before .before .before in
+    let quote = put .before in
+    let word = quote .before .before .before in
+    let place = word .before in
+    let number = place .before in
+    let a = number .before .before .before .args in
+    let option = rw (place .place-of .ensures) at (word .word .ensures) in
     same-text
-    (sentence (at .text .now) _ _ (λ option. refl) (λ option. refl) (λ option. refl) (λ option. refl) (λ option. refl) (λ option. refl) (λ option. refl)
-    (λ option. refl) refl refl refl refl refl refl refl refl refl refl (at .problem) number (c .before .before .before .before .before .before .before .before .before .before .before .before .before .line .ensures) option (c .before .before .before .line2 .ensures))
-    (then (then (c .before .before .before .before .before .before .before .before .before .before .before .before .put .ensures) (c .before .before .before .before .before .before .before .before .put-mentioned .ensures)) (c .before .before .put2 .ensures))
+    (sentence (a .text .now) _ _ (λ option. refl) (λ option. refl) (λ option. refl) (λ option. refl) (λ option. refl) (λ option. refl) (λ option. refl)
+    (λ option. refl) refl refl refl refl refl refl refl refl refl refl (a .problem) (number .line-number .ensures) (quote .line .ensures) option
+    (c .before .before .before .line2 .ensures))
+    (then (then (put .put .ensures) (mentioned .put-mentioned .ensures)) (c .before .before .put2 .ensures))
 
 pub put-problem-spec : {M : Type 1} → statement M
 put-problem-spec =

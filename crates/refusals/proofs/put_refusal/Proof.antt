@@ -32,8 +32,12 @@ same-length c = search needs
 
 returns : tie.Need-returns
 returns c =
-    let numbered = same-text (ap decimalText (c .before .before .before .before .before .before .before .before .before .before .before .refusal-number .ensures)) (c .before .before .before .before .before .before .before .before .before .before .put-number .ensures) in
-    then (then (then (c .before .before .before .before .before .before .before .before .before .before .before .before .before .before .before .put .ensures) numbered) (c .before .before .before .before .before .before .put-byte .ensures)) (c .before .before .put-name .ensures)
+    let byte = c .before .before .before .before .before .before in
+    let digits = byte .before .before .before .before in
+    let number = digits .before in
+    let text = number .before .before .before .before .put .ensures in
+    let numbered = same-text (ap decimalText (number .refusal-number .ensures)) (digits .put-number .ensures) in
+    then (then (then text numbered) (byte .put-byte .ensures)) (c .before .before .put-name .ensures)
 
 pub put-refusal-spec : {M : Type 1} → statement M
 put-refusal-spec =

@@ -28,8 +28,11 @@ returns c =
     let values = c .before .before in
     let value = values .before .before in
     let word = value .before .before in
-    let start = word .before .before in
-    let next = after-two (start .args .text .now) (start .args .at) (word .word .ensures) (value .before .name-of .ensures) (values .values-of .ensures) (value .after .ensures .0) (values .before .after2 .ensures .0) (c .before .if1 .taken) (c .after3 .ensures .0) in
+    let a = word .before .before .args in
+    let named = value .before .name-of .ensures in
+    let second = values .before .after2 .ensures .0 in
+    let next = after-two (a .text .now) (a .at) (word .word .ensures) named (values .values-of .ensures) (value .after .ensures .0) second
+    (c .before .if1 .taken) (c .after3 .ensures .0) in
     (next, (omega arith, omega arith))
 
 returns-2 : tie.Need-returns-2
@@ -37,8 +40,10 @@ returns-2 c =
     let values = c .before in
     let value = values .before .before in
     let word = value .before .before in
-    let start = word .before .before in
-    let next = after-one (start .args .text .now) (start .args .at) (word .word .ensures) (value .before .name-of .ensures) (values .values-of .ensures) (value .after .ensures .0) (values .before .after2 .ensures .0) (c .if1 .left) in
+    let a = word .before .before .args in
+    let named = value .before .name-of .ensures in
+    let second = values .before .after2 .ensures .0 in
+    let next = after-one (a .text .now) (a .at) (word .word .ensures) named (values .values-of .ensures) (value .after .ensures .0) second (c .if1 .left) in
     (next, (omega arith, omega arith))
 
 pub after-option-spec : {M : Type 1} → statement M

@@ -42,8 +42,9 @@ loop-less c = search needs
 loop-again : tie.Need-loop-again Inv-loop μ-loop
 loop-again c =
     let step = c .before .before .before .before in
+    let taken = c .before .before .next .given .1 in
     let after = c .after-option .ensures in
-    next _ (step .before .before .loop .inv) (step .before .loop-test .taken) (step .with-next .ensures) (c .before .before .next .given .1) (after .0) (after .1 .0) (omega arith)
+    next _ (step .before .before .loop .inv) (step .before .loop-test .taken) (step .with-next .ensures) taken (after .0) (after .1 .0) (omega arith)
 
 returns-2 : tie.Need-returns-2 Inv-loop μ-loop
 returns-2 c = done _ (c .before .loop .inv) (c .loop-test .left)

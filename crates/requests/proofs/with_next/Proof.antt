@@ -15,19 +15,20 @@ values-of-requires c κs = search needs
 
 returns : tie.Need-returns
 returns c =
-    let word = c .before .before .before in
-    let start = word .before .before in
-    unknown (start .args .text .now) (start .args .at) (word .word .ensures) (c .before .before .name-of .ensures) (c .before .values-of .ensures) _ (c .if1 .taken)
+    let values = c .before in
+    let named = values .before in
+    unknown _ _ (named .before .word .ensures) (named .name-of .ensures) (values .values-of .ensures) _ (c .if1 .taken)
 
 after-requires : tie.Need-after-requires
 after-requires c κs = search needs
 
 returns-2 : tie.Need-returns-2
 returns-2 c =
-    let values = c .before .before .before in
-    let word = values .before .before in
-    let start = word .before .before in
-    no-value (start .args .text .now) (start .args .at) (word .word .ensures) (values .before .name-of .ensures) (values .values-of .ensures) _ (c .before .before .if1 .left) (c .before .after .ensures .0) (c .if2 .taken)
+    let value = c .before in
+    let after1 = value .before in
+    let values = after1 .before in
+    let named = values .before in
+    no-value _ _ (named .before .word .ensures) (named .name-of .ensures) (values .values-of .ensures) _ (after1 .if1 .left) (value .after .ensures .0) (c .if2 .taken)
 
 after-requires-2 : tie.Need-after-requires-2
 after-requires-2 c κs = search needs
@@ -43,11 +44,16 @@ with-option-requires c κs = search needs
 
 returns-3 : tie.Need-returns-3
 returns-3 c =
-    let value = c .before .before .before .before .before in
-    let values = value .before .before in
-    let word = values .before .before in
-    let start = word .before .before in
-    taken (start .args .text .now) (start .args .at) (word .word .ensures) (values .before .name-of .ensures) (values .values-of .ensures) _ (value .before .if1 .left) (value .after .ensures .0) (c .before .before .before .before .if2 .left) (c .before .word3 .ensures) (c .before .before .before .after2 .ensures .0) (c .before .before .word2 .ensures) (c .with-option .ensures)
+    let word = c .before in
+    let other = word .before in
+    let behind = other .before in
+    let after2 = behind .before in
+    let value = after2 .before in
+    let after1 = value .before in
+    let values = after1 .before in
+    let named = values .before in
+    taken _ _ (named .before .word .ensures) (named .name-of .ensures) (values .values-of .ensures) _ (after1 .if1 .left) (value .after .ensures .0)
+    (after2 .if2 .left) (word .word3 .ensures) (behind .after2 .ensures .0) (other .word2 .ensures) (c .with-option .ensures)
 
 pub with-next-spec : {M : Type 1} → statement M
 with-next-spec =

@@ -22,7 +22,9 @@ returns-2 : tie.Need-returns-2
 returns-2 c = rw (c .before .before .before .first .given .1, c .enum-told2 .given .1)
 
 returns-3 : tie.Need-returns-3
-returns-3 c = rw (c .before .before .before .before .before .before .before .first .given .1, c .before .before .before .before .second .given .1)
+returns-3 c =
+    let second = c .before .before .before .before in
+    rw (second .before .before .before .first .given .1, second .second .given .1)
 
 pub with-range-spec : {M : Type 1} → statement M
 with-range-spec =

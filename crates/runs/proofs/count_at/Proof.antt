@@ -25,16 +25,20 @@ enum-told c = search needs
 returns : tie.Need-returns
 returns c =
     let called = c .before .before .before in
-    let ends = called .before .before .digits-end in
-    let args = called .before .before .before .before .args in
-    ap orOnce (sym (c .before .count .given .1) ∙ called .decimal .ensures ∙ ap decimalOf (called .before .part .ensures ∙ digits-part (args .field .now) (args .from) (ends .result) (ends .ensures .0) (ends .ensures .1)))
+    let parted = called .before in
+    let ends = parted .before .digits-end in
+    let a = parted .before .before .before .args in
+    let digits = parted .part .ensures ∙ digits-part (a .field .now) (a .from) (ends .result) (ends .ensures .0) (ends .ensures .1) in
+    ap orOnce (sym (c .before .count .given .1) ∙ called .decimal .ensures ∙ ap decimalOf digits)
 
 returns-2 : tie.Need-returns-2
 returns-2 c =
     let called = c .before .before in
-    let ends = called .before .before .digits-end in
-    let args = called .before .before .before .before .args in
-    ap orOnce (sym (c .enum-told .given .1) ∙ called .decimal .ensures ∙ ap decimalOf (called .before .part .ensures ∙ digits-part (args .field .now) (args .from) (ends .result) (ends .ensures .0) (ends .ensures .1)))
+    let parted = called .before in
+    let ends = parted .before .digits-end in
+    let a = parted .before .before .before .args in
+    let digits = parted .part .ensures ∙ digits-part (a .field .now) (a .from) (ends .result) (ends .ensures .0) (ends .ensures .1) in
+    ap orOnce (sym (c .enum-told .given .1) ∙ called .decimal .ensures ∙ ap decimalOf digits)
 
 pub count-at-spec : {M : Type 1} → statement M
 count-at-spec =

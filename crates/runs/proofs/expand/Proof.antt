@@ -41,9 +41,13 @@ loop-less c = search needs
 
 loop-again : tie.Need-loop-again Inv-loop μ-loop
 loop-again c =
-    let called = c .before .before .before in
-    let at = called .before .before .before .before .before .before .loop in
-    (search needs, next _ _ _ _ (at .inv .1) (omega arith) _ _ _ (called .before .before .before .separated .ensures) (called .before .run-count .ensures) (called .put-run .ensures) (c .run-end .ensures .0) (c .run-end .ensures .1))
+    let put = c .before .before .before in
+    let count = put .before in
+    let separated = count .before .before in
+    let at = separated .before .before .before .loop in
+    let end = c .run-end .ensures in
+    let more = next _ _ _ _ (at .inv .1) (omega arith) _ _ _ (separated .separated .ensures) (count .run-count .ensures) (put .put-run .ensures) (end .0) (end .1) in
+    (search needs, more)
 
 same-length : tie.Need-same-length Inv-loop μ-loop
 same-length c = search needs

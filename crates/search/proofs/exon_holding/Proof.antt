@@ -50,10 +50,12 @@ loop-again-2 : tie.Need-loop-again-2 Inv-loop μ-loop
 loop-again-2 c =
     let turn = c .before .before .before in
     let top = turn .before .before in
-    let start = top .before .before in (
+    let start = top .before .before in
+    let middle = (top .loop .from + top .loop .to) / 2 in
+    let exons = exonsIn (start .args .table .now) in (
       omega arith,
       omega arith,
-      sym (held-behind _ 0 ((top .loop .from + top .loop .to) / 2) (exonsIn (start .args .table .now)) _ _ (start .pre) (turn .exon-at .ensures) (c .if1 .left)),
+      sym (held-behind _ 0 middle exons _ _ (start .pre) (turn .exon-at .ensures) (c .if1 .left)),
       top .loop .inv .3,
     )
 

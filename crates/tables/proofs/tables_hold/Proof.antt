@@ -48,11 +48,14 @@ bounds-in-order-requires c κs = search needs
 
 returns-7 : tie.Need-returns-7
 returns-7 c =
-    let sized = c .before .before .before .before .before .before .before in
-    let exons = kept (c .before .before .before .before .before .before .exons-fit .ensures) (c .before .before .before .before .before .if4 .left) in
-    let first = kept (c .before .before .before .before .bound-in-target .ensures) (c .before .before .before .if5 .left) in
-    let second = kept (c .before .before .bound-in-target2 .ensures) (c .before .if6 .left) in
-    rules-left _ _ _ _ (sized .before .before .if1 .left) (sized .before .if2 .left) (sized .if3 .left) _
+    let after6 = c .before in
+    let after5 = after6 .before .before in
+    let after4 = after5 .before .before in
+    let after3 = after4 .before .before in
+    let exons = kept (after4 .before .exons-fit .ensures) (after4 .if4 .left) in
+    let first = kept (after5 .before .bound-in-target .ensures) (after5 .if5 .left) in
+    let second = kept (after6 .before .bound-in-target2 .ensures) (after6 .if6 .left) in
+    rules-left _ _ _ _ (after3 .before .before .if1 .left) (after3 .before .if2 .left) (after3 .if3 .left) _
     (rw (exons, first, second) (c .bounds-in-order .ensures))
 
 pub tables-hold-spec : {M : Type 1} → statement M

@@ -8,7 +8,10 @@ use Rattle.targets.proofs.read.Tie as tie
 
 returns : tie.Need-returns
 unfolding targetOf laid
-returns c = rw (neither (c .before .before .before .before .before .args .text .now) (c .before .before .before .before .before .args .file) (c .before .before .before .before .before .args .bytes .now) (c .before .if1 .taken) (c .if2 .taken)) (refl, refl)
+returns c =
+    let letters = c .before .if1 .taken in
+    let path = c .if2 .taken in
+    rw neither (refl, refl)
 
 read-file-requires : tie.Need-read-file-requires
 read-file-requires c κs = search needs
@@ -18,7 +21,11 @@ same-length c = search needs
 
 returns-2 : tie.Need-returns-2
 unfolding targetOf laid
-returns-2 c = rw (by-path (c .before .before .before .before .before .before .before .before .before .args .text .now) (c .before .before .before .before .before .before .before .before .before .args .file) (c .before .before .before .before .before .before .before .before .before .args .bytes .now) (c .before .before .before .before .before .if1 .taken) (c .before .before .before .before .if2 .left)) (c .before .before .read-file .ensures)
+returns-2 c =
+    let after2 = c .before .before .before .before in
+    let letters = after2 .before .if1 .taken in
+    let path = after2 .if2 .left in
+    rw by-path (c .before .before .read-file .ensures)
 
 word-requires : tie.Need-word-requires
 word-requires c κs = search needs
@@ -31,11 +38,18 @@ same-length-2 c = search needs
 
 returns-3 : tie.Need-returns-3
 unfolding targetOf laid
-returns-3 c = rw (by-letters (c .before .before .before .before .before .before .before .before .before .before .args .text .now) (c .before .before .before .before .before .before .before .before .before .before .args .file) (c .before .before .before .before .before .before .before .before .before .before .args .bytes .now) (c .before .before .before .before .before .before .if1 .left) (c .before .before .before .before .before .if3 .taken)) (rw (c .before .before .before .before .word .ensures) at (c .before .before .read-text .ensures))
+returns-3 c =
+    let after3 = c .before .before .before .before .before in
+    let letters = after3 .before .if1 .left in
+    let path = after3 .if3 .taken in
+    rw by-letters (rw (c .before .before .before .before .word .ensures) at (c .before .before .read-text .ensures))
 
 returns-4 : tie.Need-returns-4
 unfolding targetOf laid
-returns-4 c = rw (both (c .before .before .before .before .before .args .text .now) (c .before .before .before .before .before .args .file) (c .before .before .before .before .before .args .bytes .now) (c .before .if1 .left) (c .if3 .left)) (refl, refl)
+returns-4 c =
+    let letters = c .before .if1 .left in
+    let path = c .if3 .left in
+    rw both (refl, refl)
 
 pub read-spec : {M : Type 1} → statement M
 read-spec =

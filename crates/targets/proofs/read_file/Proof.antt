@@ -25,7 +25,9 @@ same-length c = search needs
 
 returns : tie.Need-returns
 unfolding ofFile targetOf laid
-returns c = rw (c .before .before .before .before .before .before .file .given .1) (rw (c .before .before .before .before .part .ensures) at (c .before .before .read-text .ensures))
+returns c =
+    let part = c .before .before .before .before in
+    rw (part .before .before .file .given .1) (rw (part .part .ensures) at (c .before .before .read-text .ensures))
 
 returns-2 : tie.Need-returns-2
 unfolding ofFile targetOf laid

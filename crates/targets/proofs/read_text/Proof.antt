@@ -22,21 +22,27 @@ same-length c = search needs
 
 returns : tie.Need-returns
 unfolding targetOf laid
-returns c = (ap cameTo (sym (c .before .size .given .1) ∙ c .before .before .before .before .before .read-letters .ensures .0), c .before .before .before .before .before .read-letters .ensures .1)
+returns c =
+    let letters = c .before .before .before .before .before .read-letters .ensures in
+    (ap cameTo (sym (c .before .size .given .1) ∙ letters .0), letters .1)
 
 same-length-2 : tie.Need-same-length-2
 same-length-2 c = search needs
 
 returns-2 : tie.Need-returns-2
 unfolding targetOf laid
-returns-2 c = (ap cameTo (sym (c .enum-told .given .1) ∙ c .before .before .before .before .read-letters .ensures .0), c .before .before .before .before .read-letters .ensures .1)
+returns-2 c =
+    let letters = c .before .before .before .before .read-letters .ensures in
+    (ap cameTo (sym (c .enum-told .given .1) ∙ letters .0), letters .1)
 
 same-length-3 : tie.Need-same-length-3
 same-length-3 c = search needs
 
 returns-3 : tie.Need-returns-3
 unfolding targetOf laid
-returns-3 c = (ap cameTo (sym (c .enum-told2 .given .1) ∙ c .before .before .before .before .read-letters .ensures .0), c .before .before .before .before .read-letters .ensures .1)
+returns-3 c =
+    let letters = c .before .before .before .before .read-letters .ensures in
+    (ap cameTo (sym (c .enum-told2 .given .1) ∙ letters .0), letters .1)
 
 pub read-text-spec : {M : Type 1} → statement M
 read-text-spec =

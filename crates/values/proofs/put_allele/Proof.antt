@@ -24,7 +24,10 @@ same-length-2 : tie.Need-same-length-2
 same-length-2 c = search needs
 
 returns-2 : tie.Need-returns-2
-returns-2 c = rw (ne-eqb _ _ (c .before .before .before .before .before .if1 .left)) (same-text (c .before .before .before .part .ensures) (c .before .before .put .ensures))
+returns-2 c =
+    let part = c .before .before .before in
+    let some = part .before .before .if1 .left in
+    rw (ne-eqb _ _ some) (same-text (part .part .ensures) (c .before .before .put .ensures))
 
 pub put-allele-spec : {M : Type 1} → statement M
 put-allele-spec =

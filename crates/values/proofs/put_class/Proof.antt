@@ -29,9 +29,11 @@ same-length c = search needs
 returns : tie.Need-returns
 unfolding className lineOf
 returns c =
-    let is-line = c .before .before .before .line .ensures in
-    let is-number = c .before .before .before .before .before .before .class-number .ensures in
-    same-text (named (c .before .before .before .before .before .before .before .before .args .class) is-line is-number refl refl refl refl refl refl) (c .before .before .put .ensures)
+    let line = c .before .before .before in
+    let number = line .before .before .before in
+    let a = number .before .before .args in
+    let name = named (a .class) (line .line .ensures) (number .class-number .ensures) refl refl refl refl refl refl in
+    same-text name (c .before .before .put .ensures)
 
 pub put-class-spec : {M : Type 1} → statement M
 put-class-spec =

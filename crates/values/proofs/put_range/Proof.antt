@@ -17,7 +17,10 @@ same-length : tie.Need-same-length
 same-length c = search needs
 
 returns : tie.Need-returns
-returns c = then (then (c .before .before .before .before .before .before .before .before .before .before .put-number .ensures) (c .before .before .before .before .before .before .put-byte .ensures)) (c .before .before .put-number2 .ensures)
+returns c =
+    let byte = c .before .before .before .before .before .before in
+    let start = byte .before .before .before .before in
+    then (then (start .put-number .ensures) (byte .put-byte .ensures)) (c .before .before .put-number2 .ensures)
 
 pub put-range-spec : {M : Type 1} → statement M
 put-range-spec =

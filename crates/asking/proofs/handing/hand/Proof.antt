@@ -33,10 +33,13 @@ same-length-2 c = search needs
 returns : tie.Need-returns
 unfolding handedTo
 returns c =
-    let one = c .before .before .before .before .before .before .before .before .before .before .before .bound-number in
-    let two = c .before .before .before .before .before .before .before .before .before .before .bound-number2 in
-    let three = c .before .before .before .before .before .before .before .before .before .position-of in
-    let four = c .before .before .before .before .before .before .before .before .position-of2 in
+    let word = c .before .before .before .before .before .before .before in
+    let placed = word .before in
+    let bounded = placed .before .before in
+    let one = bounded .before .bound-number in
+    let two = bounded .bound-number2 in
+    let three = placed .before .position-of in
+    let four = placed .position-of2 in
     rw (
       toZ-ofZ w64 (one .result) (record { sfits = one .ok }),
       toZ-ofZ w64 (two .result) (record { sfits = two .ok }),
@@ -46,7 +49,7 @@ returns c =
       two .ensures,
       three .ensures,
       four .ensures,
-      c .before .before .before .before .before .before .before .word .ensures,
+      word .word .ensures,
     )
     at (c .before .before .before .before .normalize .ensures)
 

@@ -21,10 +21,10 @@ same-length c = search needs
 
 returns : tie.Need-returns
 returns c =
-    then (c .before .before .before .before .before .before .before .before .before .before .before .before .before .before .put-byte .ensures)
-    (then (c .before .before .before .before .before .before .before .before .before .before .put-allele .ensures)
-    (then (c .before .before .before .before .before .before .put-byte2 .ensures)
-    (c .before .before .put-allele2 .ensures)))
+    let second = c .before .before .before .before .before .before in
+    let reference = second .before .before .before .before in
+    let first = reference .before .before .before .before in
+    then (first .put-byte .ensures) (then (reference .put-allele .ensures) (then (second .put-byte2 .ensures) (c .before .before .put-allele2 .ensures)))
 
 pub put-alleles-spec : {M : Type 1} → statement M
 put-alleles-spec =

@@ -27,11 +27,14 @@ same-length c = search needs
 
 returns : tie.Need-returns
 returns c =
+    let spaced = c .before .before .before .before .before .before in
+    let spelled = spaced .before .before .before .before in
+    let ranged = spelled .before .before .before .before in
+    let parted = ranged .before .before .before .before in
+    let named = parted .before .before .before .before in
     then
-    (then
-    (then (c .before .before .before .before .before .before .before .before .before .before .before .before .before .before .before .before .before .before .before .before .before .before .put-class .ensures) (then (c .before .before .before .before .before .before .before .before .before .before .before .before .before .before .before .before .before .before .put-byte .ensures) (c .before .before .before .before .before .before .before .before .before .before .before .before .before .before .put-range .ensures)))
-    (c .before .before .before .before .before .before .before .before .before .before .put-alleles .ensures))
-    (then (c .before .before .before .before .before .before .put-byte2 .ensures) (c .before .before .put-number .ensures))
+    (then (then (named .put-class .ensures) (then (parted .put-byte .ensures) (ranged .put-range .ensures))) (spelled .put-alleles .ensures))
+    (then (spaced .put-byte2 .ensures) (c .before .before .put-number .ensures))
 
 pub put-answer-spec : {M : Type 1} → statement M
 put-answer-spec =

@@ -31,11 +31,19 @@ part-requires c κs = search needs
 
 returns : tie.Need-returns
 unfolding pathOf
-returns c = c .word .ensures ∙ ap (pathIn (c .before .before .before .before .before .before .args .text .now)) (sym (c .before .before .request .given .1) ∙ c .before .before .before .before .request-of .ensures)
+returns c =
+    let matched = c .before .before in
+    let asked = matched .before .before in
+    let a = asked .before .before .args in
+    c .word .ensures ∙ ap (pathIn (a .text .now)) (sym (matched .request .given .1) ∙ asked .request-of .ensures)
 
 returns-2 : tie.Need-returns-2
 unfolding pathOf
-returns-2 c = c .part .ensures ∙ no-path (c .before .before .before .before .before .args .text .now) ∙ ap (pathIn (c .before .before .before .before .before .args .text .now)) (sym (c .before .enum-told .given .1) ∙ c .before .before .before .request-of .ensures)
+returns-2 c =
+    let asked = c .before .before .before in
+    let a = asked .before .before .args in
+    let broken = sym (c .before .enum-told .given .1) ∙ asked .request-of .ensures in
+    c .part .ensures ∙ no-path (a .text .now) ∙ ap (pathIn (a .text .now)) broken
 
 pub path-of-spec : {M : Type 1} → statement M
 path-of-spec =

@@ -28,7 +28,12 @@ add-t6 c = search needs
 
 returns : tie.Need-returns
 unfolding requestAt
-returns c = (rw (c .before .numbers-at .ensures, c .before .before .before .before .before .part-at3 .ensures .0, c .before .before .before .before .before .before .before .part-at2 .ensures .0, c .before .before .before .before .before .before .before .before .before .part-at .ensures .0), omega (arith, c .before .before .before .before .before .part-at3 .ensures .1))
+returns c =
+    let third = c .before .before .before .before .before in
+    let second = third .before .before in
+    let first = second .before .before in
+    let numbers = c .before .numbers-at .ensures in
+    (rw (numbers, third .part-at3 .ensures .0, second .part-at2 .ensures .0, first .part-at .ensures .0), omega (arith, third .part-at3 .ensures .1))
 
 pub request-at-spec : {M : Type 1} → statement M
 request-at-spec =

@@ -43,7 +43,17 @@ number-requires-5 c κs = search needs
 
 returns : tie.Need-returns
 unfolding storedAt
-returns c = (rw (c .number5 .ensures, c .before .number4 .ensures, c .before .before .number3 .ensures, c .before .before .before .number2 .ensures, c .before .before .before .before .number .ensures, c .before .before .before .before .before .before .before .part-at2 .ensures .0, c .before .before .before .before .before .before .before .before .part-at .ensures .0), omega (arith, c .before .before .before .before .before .before .before .part-at2 .ensures .1))
+returns c =
+    let fourth = c .before in
+    let third = fourth .before in
+    let second = third .before in
+    let first = second .before in
+    let alternative = first .before .before .before .part-at2 .ensures in
+    let reference = first .before .before .before .before .part-at .ensures in
+    let short = first .before .before .before .before .before .before .pre in (
+      rw (c .number5 .ensures, fourth .number4 .ensures, third .number3 .ensures, second .number2 .ensures, first .number .ensures, alternative .0, reference .0),
+      omega (arith, alternative .1, short),
+    )
 
 pub stored-at-spec : {M : Type 1} → statement M
 stored-at-spec =

@@ -23,7 +23,10 @@ holds-allele-requires-2 c κs = search needs
 
 returns : tie.Need-returns
 returns c =
-    rw (c .before .before .before .holds-allele .ensures, c .holds-allele2 .ensures, c .before .before .before .before .before .before .before .before .before .before .before .before .before .before .before .before .before .bytes-of .ensures, c .before .before .before .before .before .before .before .before .before .before .before .before .before .before .before .before .bytes-of2 .ensures)
+    let held = c .before .before .before in
+    let alternative = held .before .before .before .before .before .before .before .before .before .before .before .before .before in
+    let reference = alternative .before .bytes-of .ensures in
+    rw (held .holds-allele .ensures, c .holds-allele2 .ensures, reference, alternative .bytes-of2 .ensures)
 
 pub compare-spec : {M : Type 1} → statement M
 compare-spec =

@@ -32,17 +32,21 @@ normalize-requires c κs = search needs
 
 in-numbers-requires : tie.Need-in-numbers-requires
 in-numbers-requires c κs =
-    let s = c .before .before .before .before .before .before .before .before .before .before .before .before .before .before in
+    let numbers = c .before .before .before .before .before .before in
+    let third = numbers .before .before .before in
+    let second = third .before in
+    let first = second .before in
+    let s = first .before .before .before in
     let request = s .args .request in
-    let told = c .before .before .before .before .before .before .struct-told .given in
+    let told = numbers .struct-told .given in
     let m = rw (
       toZ-ofZ {w = w64} {z = request .numbers .«cds_start»} (record { sfits = told .1 .0 .1 }),
       toZ-ofZ {w = w64} {z = request .numbers .«cds_end»} (record { sfits = told .1 .1 .0 .1 }),
       toZ-ofZ {w = w32} {z = request .numbers .start} (record { sfits = told .1 .1 .1 .0 .1 }),
       toZ-ofZ {w = w32} {z = request .numbers .end} (record { sfits = told .1 .1 .1 .1 .0 .1 }),
-      c .before .before .before .before .before .before .before .before .before .before .before .bytes-of .ensures,
-      c .before .before .before .before .before .before .before .before .before .before .bytes-of2 .ensures,
-      c .before .before .before .before .before .before .before .before .before .bytes-of3 .ensures,
+      first .bytes-of .ensures,
+      second .bytes-of2 .ensures,
+      third .bytes-of3 .ensures,
     )
     at (c .before .before .normalize .ensures) in
     rw (m .numbers) (small-outcome (verdict (askedIn (s .args .file .now) request)) [] [] (reply-fits (askedIn (s .args .file .now) request) [] []))
@@ -53,20 +57,25 @@ compare-requires c κs = search needs
 returns : tie.Need-returns
 unfolding filled
 returns c =
-    let s = c .before .before .before .before .before .before .before .before .before .before .before .before .before .before .before .before .before .before in
+    let normalized = c .before .before .before .before .before .before in
+    let numbers = normalized .before .before .before .before in
+    let third = numbers .before .before .before in
+    let second = third .before in
+    let first = second .before in
+    let s = first .before .before .before in
     let file = s .args .file .now in
     let request = s .args .request in
-    let told = c .before .before .before .before .before .before .before .before .before .before .struct-told .given in
+    let told = numbers .struct-told .given in
     let m = rw (
       toZ-ofZ {w = w64} {z = request .numbers .«cds_start»} (record { sfits = told .1 .0 .1 }),
       toZ-ofZ {w = w64} {z = request .numbers .«cds_end»} (record { sfits = told .1 .1 .0 .1 }),
       toZ-ofZ {w = w32} {z = request .numbers .start} (record { sfits = told .1 .1 .1 .0 .1 }),
       toZ-ofZ {w = w32} {z = request .numbers .end} (record { sfits = told .1 .1 .1 .1 .0 .1 }),
-      c .before .before .before .before .before .before .before .before .before .before .before .before .before .before .before .bytes-of .ensures,
-      c .before .before .before .before .before .before .before .before .before .before .before .before .before .before .bytes-of2 .ensures,
-      c .before .before .before .before .before .before .before .before .before .before .before .before .before .bytes-of3 .ensures,
+      first .bytes-of .ensures,
+      second .bytes-of2 .ensures,
+      third .bytes-of3 .ensures,
     )
-    at (c .before .before .before .before .before .before .normalize .ensures) in
+    at (normalized .normalize .ensures) in
     c .compare .ensures
     ∙ ap (comparedWith file (s .args .stored)) (replied (c .before .before .before .in-numbers .ensures) (verdict (askedIn file request)) m)
 

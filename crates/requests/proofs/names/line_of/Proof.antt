@@ -33,14 +33,18 @@ is-requires c κs = search needs
 returns : tie.Need-returns Inv-loop μ-loop
 returns c =
     let called = c .before in
-    let at = called .before .before .before .before .loop in
-    found (called .before .before .before .before .before .before .before .args .lines .now) _ (at .from) (at .place) (at .inv .2) (at .inv .1) (called .before .before .find .ensures .0) (called .before .before .find .ensures .1 .0) (called .before .part .ensures) (called .is .ensures) (c .if1 .taken)
+    let parted = called .before in
+    let line = parted .before .find .ensures in
+    let at = parted .before .before .before .loop in
+    found _ _ (at .from) (at .place) (at .inv .2) (at .inv .1) (line .0) (line .1 .0) (parted .part .ensures) (called .is .ensures) (c .if1 .taken)
 
 returns-2 : tie.Need-returns-2 Inv-loop μ-loop
 returns-2 c =
     let called = c .before .before in
-    let at = called .before .before .before .before .loop in
-    last (called .before .before .before .before .before .before .before .args .lines .now) _ (at .from) (at .place) (at .inv .2) (at .inv .1) (called .before .before .find .ensures .0) (called .before .before .find .ensures .1 .0) (called .before .part .ensures) (called .is .ensures) (c .before .if1 .left) (c .if2 .taken)
+    let parted = called .before in
+    let line = parted .before .find .ensures in
+    let at = parted .before .before .before .loop in
+    last _ _ (at .from) (at .place) (at .inv .2) (at .inv .1) (line .0) (line .1 .0) (parted .part .ensures) (called .is .ensures) (c .before .if1 .left) (c .if2 .taken)
 
 add-from : tie.Need-add-from Inv-loop μ-loop
 add-from c = search needs
@@ -54,8 +58,12 @@ loop-less c = search needs
 loop-again : tie.Need-loop-again Inv-loop μ-loop
 loop-again c =
     let called = c .before .before in
-    let at = called .before .before .before .before .loop in
-    (search needs, search needs, next (called .before .before .before .before .before .before .before .args .lines .now) _ (at .from) (at .place) (at .inv .2) (at .inv .1) (called .before .before .find .ensures .0) (called .before .before .find .ensures .1 .0) (called .before .part .ensures) (called .is .ensures) (c .before .if1 .left) (omega arith))
+    let parted = called .before in
+    let line = parted .before .find .ensures in
+    let at = parted .before .before .before .loop in
+    let other = c .before .if1 .left in
+    let counted = next _ _ (at .from) (at .place) (at .inv .2) (at .inv .1) (line .0) (line .1 .0) (parted .part .ensures) (called .is .ensures) other (omega arith) in
+    (search needs, search needs, counted)
 
 returns-3 : tie.Need-returns-3 Inv-loop μ-loop
 returns-3 c = absurd (omega arith)

@@ -56,8 +56,29 @@ returns-12 c = rw (c .match .keys12)
 
 returns-13 : tie.Need-returns-13
 returns-13 c =
-    let rest = c .match .rest in
-    past-rows options Unknown _ (more 11 (more 10 (more 9 (more 8 (more 7 (more 6 (more 5 (more 4 (more 3 (more 2 (more 1 (more 0 (omega arith) (rest .0 .0 .0 .0 .0 .0 .0 .0 .0 .0 .0 .1)) (rest .0 .0 .0 .0 .0 .0 .0 .0 .0 .0 .1)) (rest .0 .0 .0 .0 .0 .0 .0 .0 .0 .1)) (rest .0 .0 .0 .0 .0 .0 .0 .0 .1)) (rest .0 .0 .0 .0 .0 .0 .0 .1)) (rest .0 .0 .0 .0 .0 .0 .1)) (rest .0 .0 .0 .0 .0 .1)) (rest .0 .0 .0 .0 .1)) (rest .0 .0 .0 .1)) (rest .0 .0 .1)) (rest .0 .1)) (rest .1))
+    let not11 = c .match .rest in
+    let not10 = not11 .0 in
+    let not9 = not10 .0 in
+    let not8 = not9 .0 in
+    let not7 = not8 .0 in
+    let not6 = not7 .0 in
+    let not5 = not6 .0 in
+    let not4 = not5 .0 in
+    let not3 = not4 .0 in
+    let not2 = not3 .0 in
+    let not1 = not2 .0 in
+    let past0 = more 0 (omega arith) (not1 .0 .1) in
+    let past1 = more 1 past0 (not1 .1) in
+    let past2 = more 2 past1 (not2 .1) in
+    let past3 = more 3 past2 (not3 .1) in
+    let past4 = more 4 past3 (not4 .1) in
+    let past5 = more 5 past4 (not5 .1) in
+    let past6 = more 6 past5 (not6 .1) in
+    let past7 = more 7 past6 (not7 .1) in
+    let past8 = more 8 past7 (not8 .1) in
+    let past9 = more 9 past8 (not9 .1) in
+    let past10 = more 10 past9 (not10 .1) in
+    past-rows options Unknown _ (more 11 past10 (not11 .1))
 
 pub option-at-spec : {M : Type 1} → statement M
 option-at-spec =
