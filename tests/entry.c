@@ -1,5 +1,5 @@
-/* A C program over include/sundrimel.h: one answer, and one request for each refusal, which differ from the answered one in what their row speaks
- * of. After each, every number and every byte of both buffers. Ends with status 1, and names the row, where one is not as it should be. */
+/* A C program over include/sundrimel.h: one answer, and for each refusal one request or more, which differ from the answered one in what their row
+ * speaks of. After each, every number and every byte of both buffers. Ends with status 1, and names the row, where one is not as it should be. */
 #include "sundrimel.h"
 
 #include <stdio.h>
