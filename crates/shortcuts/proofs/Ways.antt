@@ -18,7 +18,7 @@ use Rattle.definition.specs.Verdict.{replacedAtOnce, shortcut}
 use Rattle.definition.proofs.Tests.{and-true}
 use Rattle.definition.proofs.Parts.{lent-part}
 use Rattle.shortcuts.specs.declared.Way.{Way}
-use Rattle.shortcuts.specs.declared.Way.the-variants.{Same, Single, Later}
+use Rattle.shortcuts.specs.declared.Way.the-variants.{AtOnce, Later}
 use Rattle.shortcuts.specs.Ways.{replacedWay, wayOf, inPlace}
 
 -- the test over the lent part is one over the reference
@@ -33,7 +33,7 @@ module _ (target alternative : List ℕ) (start end : ℕ) (ordered : start < en
   size : length reference ≡ end - start
   size = length-slice start end target fits
 
-  pub way-same : sameBases reference alternative ≡ true → Same ≡ replacedWay reference alternative
+  pub way-same : sameBases reference alternative ≡ true → AtOnce Unchanged ≡ replacedWay reference alternative
   unfolding replacedWay
   way-same e = rw e
 
@@ -46,14 +46,13 @@ module _ (target alternative : List ℕ) (start end : ℕ) (ordered : start < en
     unfolding replacedWay
     way-many e d = rw (other, eq-eqb (length reference) 1 (size ∙ e), ne-eqb (length alternative) 1 d)
 
-    pub way-single : end - start ≡ 1 → length alternative ≡ 1 → Single ≡ replacedWay reference alternative
+    pub way-single : end - start ≡ 1 → length alternative ≡ 1 → AtOnce Replacement ≡ replacedWay reference alternative
     unfolding replacedWay
     way-single e f = rw (other, eq-eqb (length reference) 1 (size ∙ e), eq-eqb (length alternative) 1 f)
 
   -- what is named at once, by the way
   abbrev pub namedBy : Way → Option Named
-  namedBy Same = some (inPlace Unchanged target start end alternative)
-  namedBy Single = some (inPlace Replacement target start end alternative)
+  namedBy (AtOnce class) = some (inPlace class target start end alternative)
   namedBy Later = none
 
   replaced-named : replacedAtOnce start end reference alternative ≡ namedBy (replacedWay reference alternative)

@@ -6,17 +6,18 @@ use lib.Dec.{eqb}
 use lib.ListN.{length}
 use lib.Seq.{slice}
 use Rattle.definition.specs.declared.Class.{Class}
+use Rattle.definition.specs.declared.Class.the-variants.{Unchanged, Replacement}
 use Rattle.definition.specs.declared.Edit.{Edit}
 use Rattle.definition.specs.declared.Edit.the-variants.{Insert, Duplicate, Delete, Replace, Invert}
 use Rattle.definition.specs.Bases.{sameBases}
 use Rattle.definition.specs.Answer.{Named}
 use Rattle.shortcuts.specs.declared.Way.{Way}
-use Rattle.shortcuts.specs.declared.Way.the-variants.{Same, Single, Later}
+use Rattle.shortcuts.specs.declared.Way.the-variants.{AtOnce, Later}
 
--- the way of a replacement, and of any edit
+-- the way of a replacement: by the same bases, of one base by one other, or another; and the way of any edit
 unfoldable pub replacedWay : List ℕ → List ℕ → Way
 replacedWay reference alternative =
-    cond (sameBases reference alternative) Same (cond (eqb (length reference) 1 && eqb (length alternative) 1) Single Later)
+    cond (sameBases reference alternative) (AtOnce Unchanged) (cond (eqb (length reference) 1 && eqb (length alternative) 1) (AtOnce Replacement) Later)
 
 unfoldable pub wayOf : Edit → List ℕ → ℕ → ℕ → List ℕ → Way
 wayOf Insert target start end alternative = Later

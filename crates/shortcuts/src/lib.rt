@@ -15,11 +15,9 @@ use definition::Edit;
 use definition::Outcome;
 use definition::Zero;
 
-// How a request that passes the rows is answered: at once, as a replacement by the same bases or of one base by one other, or later, in its
-// piece.
+// How a request that passes the rows is answered: at once, as a change of a class, or later, in its piece.
 pub enum Way {
-    Same,
-    Single,
+    AtOnce(Class),
     Later,
 }
 
@@ -63,7 +61,7 @@ fn substitution(target: &[u8], start: Zero, end: Zero, alternative: &[u8]) -> Wa
     let to = end.0;
     let reference = &target[from..to];
     if same_bases(reference, alternative) {
-        return Way::Same;
+        return Way::AtOnce(Class::Unchanged);
     }
     if to - from != 1 {
         return Way::Later;
@@ -71,7 +69,7 @@ fn substitution(target: &[u8], start: Zero, end: Zero, alternative: &[u8]) -> Wa
     if alternative.len() != 1 {
         return Way::Later;
     }
-    Way::Single
+    Way::AtOnce(Class::Replacement)
 }
 
 // An answer given at once: the range as it is, with its bases and the alternative.

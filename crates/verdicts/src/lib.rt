@@ -4,12 +4,11 @@ ghost use lib.ListN.{length};
 ghost use Rattle.definition.specs.Limits.{longestWindow, longestTarget};
 ghost use Rattle.definition.specs.Change.{spelled};
 ghost use Rattle.definition.specs.Piece.{pieceFor};
-ghost use Rattle.definition.specs.Verdict.{afterPiece, afterShortcuts, shortcut};
+ghost use Rattle.definition.specs.Verdict.{afterShortcuts, shortcut};
 ghost use Rattle.definition.specs.Reply.{Met};
 ghost use Rattle.buffers.specs.Asked.{Room};
 ghost use Rattle.verdicts.specs.Passed.{Passed, rangeVerdict};
 use definition::Bound;
-use definition::Class;
 use definition::Direction;
 use definition::Edit;
 use definition::Kind;
@@ -19,48 +18,7 @@ use definition::Refusal;
 use definition::Zero;
 use shortcuts::Way;
 
-// A request that is not answered at once: rows 12 to 15, and the change in its piece.
-fn answer_in_piece(
-    target: &[u8],
-    kind: Kind,
-    exons: &[u8],
-    cds_start: Bound,
-    cds_end: Bound,
-    start: Zero,
-    end: Zero,
-    edit: Edit,
-    alternative: &[u8],
-    direction: Direction,
-    window: usize,
-    reference_out: &mut [u8],
-    alternative_out: &mut [u8],
-) -> Outcome
-    requires { ⌜ Passed (now target) kind (now exons) (start .0) (end .0) edit (now alternative) window ⌝ }
-    requires { ⌜ Room (now «reference_out») (now «alternative_out») ⌝ }
-    ensures { λ r. ⌜ Met
-        (afterPiece direction kind (now (target .entry)) (spelled edit (now (target .entry)) (start .0) (end .0) (now (alternative .entry)))
-        (pieceFor kind (now (exons .entry)) «cds_start» «cds_end» (start .0) (end .0)))
-        r (now («reference_out» .entry)) (now («reference_out» .exit)) (now («alternative_out» .entry)) (now («alternative_out» .exit)) ⌝ }
-{
-    match pieces::piece_for(kind, exons, cds_start, cds_end, start, end) {
-        PieceFound::InPiece(piece) => spelling::spell(
-            target,
-            kind,
-            direction,
-            piece,
-            start,
-            end,
-            edit,
-            alternative,
-            window,
-            reference_out,
-            alternative_out,
-        ),
-        PieceFound::NoPiece(refusal) => Outcome::Refuse(refusal),
-    }
-}
-
-// A request that passes rows 1 to 10.
+// A request that passes rows 1 to 10: an answer at once, or rows 12 to 15 and the change in its piece.
 fn answer_passed(
     target: &[u8],
     kind: Kind,
@@ -84,10 +42,9 @@ fn answer_passed(
         (shortcut edit (now (target .entry)) (start .0) (end .0) (now (alternative .entry))))
         r (now («reference_out» .entry)) (now («reference_out» .exit)) (now («alternative_out» .entry)) (now («alternative_out» .exit)) ⌝ }
 {
-    let way = shortcuts::way_of(edit, target, start, end, alternative);
-    match way {
-        Way::Same => shortcuts::answer_in_place(
-            Class::Unchanged,
+    match shortcuts::way_of(edit, target, start, end, alternative) {
+        Way::AtOnce(class) => shortcuts::answer_in_place(
+            class,
             target,
             start,
             end,
@@ -95,30 +52,22 @@ fn answer_passed(
             reference_out,
             alternative_out,
         ),
-        Way::Single => shortcuts::answer_in_place(
-            Class::Replacement,
-            target,
-            start,
-            end,
-            alternative,
-            reference_out,
-            alternative_out,
-        ),
-        Way::Later => answer_in_piece(
-            target,
-            kind,
-            exons,
-            cds_start,
-            cds_end,
-            start,
-            end,
-            edit,
-            alternative,
-            direction,
-            window,
-            reference_out,
-            alternative_out,
-        ),
+        Way::Later => match pieces::piece_for(kind, exons, cds_start, cds_end, start, end) {
+            PieceFound::InPiece(piece) => spelling::spell(
+                target,
+                kind,
+                direction,
+                piece,
+                start,
+                end,
+                edit,
+                alternative,
+                window,
+                reference_out,
+                alternative_out,
+            ),
+            PieceFound::NoPiece(refusal) => Outcome::Refuse(refusal),
+        },
     }
 }
 

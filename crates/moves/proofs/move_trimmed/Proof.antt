@@ -16,7 +16,7 @@ add-shared : tie.Need-add-shared
 add-shared c =
     let s = c .before .before in
     let t = trims (s .args .direction) (s .pre .0) (s .pre .1 .0) (s .pre .1 .1) in
-    omega (arith, t .inReference, t .inInserted, s .pre .0 .order, from-edge (s .args .piece) (s .args .target .now) (s .pre .0 .right))
+    omega (arith, t .inInserted)
 
 sub-rn : tie.Need-sub-rn
 sub-rn c = search needs
@@ -25,25 +25,25 @@ sub-rn-2 : tie.Need-sub-rn-2
 sub-rn-2 c =
     let s = c .before .before .before .before in
     let t = trims (s .args .direction) (s .pre .0) (s .pre .1 .0) (s .pre .1 .1) in
-    omega (arith, t .inReference, t .inInserted, s .pre .0 .order, from-edge (s .args .piece) (s .args .target .now) (s .pre .0 .right))
+    omega (arith, t .inReference)
 
 sub-an : tie.Need-sub-an
 sub-an c =
     let s = c .before .before .before .before in
     let t = trims (s .args .direction) (s .pre .0) (s .pre .1 .0) (s .pre .1 .1) in
-    omega (arith, t .inReference, t .inInserted, s .pre .0 .order, from-edge (s .args .piece) (s .args .target .now) (s .pre .0 .right))
+    omega (arith, t .inInserted)
 
 add-start : tie.Need-add-start
 add-start c =
     let s = c .before .before .before .before .before in
     let t = trims (s .args .direction) (s .pre .0) (s .pre .1 .0) (s .pre .1 .1) in
-    omega (arith, t .inReference, t .inInserted, s .pre .0 .order, from-edge (s .args .piece) (s .args .target .now) (s .pre .0 .right))
+    omega (arith, t .inReference, from-edge (s .args .piece) (s .args .target .now) (s .pre .0 .right) .1)
 
 add-end : tie.Need-add-end
 add-end c =
     let s = c .before .before .before .before .before in
     let t = trims (s .args .direction) (s .pre .0) (s .pre .1 .0) (s .pre .1 .1) in
-    omega (arith, t .inReference, t .inInserted, s .pre .0 .order, from-edge (s .args .piece) (s .args .target .now) (s .pre .0 .right))
+    omega (arith, t .inReference, s .pre .0 .order, from-edge (s .args .piece) (s .args .target .now) (s .pre .0 .right) .1)
 
 add-last : tie.Need-add-last
 add-last c = search needs
@@ -58,7 +58,7 @@ part-filled-end : tie.Need-part-filled-end
 part-filled-end c =
     let s = c .before .before .before .before .before in
     let t = trims (s .args .direction) (s .pre .0) (s .pre .1 .0) (s .pre .1 .1) in
-    omega (arith, t .inReference, t .inInserted, s .pre .0 .order, from-edge (s .args .piece) (s .args .target .now) (s .pre .0 .right))
+    omega (arith, t .inReference, s .pre .0 .order, from-edge (s .args .piece) (s .args .target .now) (s .pre .0 .right) .1)
 
 filled-requires : tie.Need-filled-requires
 filled-requires c κs = search needs
@@ -73,7 +73,7 @@ part-filled-end-2 : tie.Need-part-filled-end-2
 part-filled-end-2 c =
     let s = c .before .before .before .before .before .before .before in
     let t = trims (s .args .direction) (s .pre .0) (s .pre .1 .0) (s .pre .1 .1) in
-    omega (arith, t .inReference, t .inInserted, s .pre .0 .order, from-edge (s .args .piece) (s .args .target .now) (s .pre .0 .right))
+    omega (arith, t .inInserted)
 
 filled-requires-2 : tie.Need-filled-requires-2
 filled-requires-2 c κs = search needs

@@ -49,7 +49,7 @@ move-trimmed-requires c κs =
     (s .pre, (front, back-first lent _ back))
 
 returns : tie.Need-returns
-returns c = search needs
+returns c = c .move-trimmed .ensures
 
 pub normalize-alleles-3-to-5-spec : {M : Type 1} → statement M
 normalize-alleles-3-to-5-spec =

@@ -49,7 +49,7 @@ move-trimmed-requires c κs =
     (s .pre, (front-first lent _ front, back))
 
 returns : tie.Need-returns
-returns c = search needs
+returns c = c .move-trimmed .ensures
 
 pub normalize-alleles-5-to-3-spec : {M : Type 1} → statement M
 normalize-alleles-5-to-3-spec =
