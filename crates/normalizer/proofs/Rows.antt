@@ -24,7 +24,7 @@ use Rattle.definition.specs.Verdict.{verdict, refused, rows, requestRows, targe
 use Rattle.definition.specs.Verdict.{badBase, outOfBounds, badInsertion, tooLong, badAllele, noRoom, badTables, answerIn}
 use Rattle.definition.specs.Verdict.{answeredAtOnce, pieceOf, refusedOr, sizeOutside, windowOutside}
 use Rattle.definition.proofs.Tests.{or-false}
-use Rattle.verdicts.specs.Passed.{rangeVerdict}
+use Rattle.normalizer.specs.Passed.{rangeVerdict}
 
 module _ (r : Request) where
   pub row-1 : badCode r ≡ true → verdict r ≡ refused BadCode

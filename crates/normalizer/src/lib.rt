@@ -1,5 +1,6 @@
 // `normalize`: rows 1 to 5 in order, then the verdict on what was read. Nothing is left to the caller to check.
 mod codes;
+mod verdicts;
 
 ghost use lib.ListN.{length};
 ghost use Rattle.definition.specs.Verdict.{verdict};

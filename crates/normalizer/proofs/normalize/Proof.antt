@@ -8,7 +8,7 @@ use mir.Syntax.{w32, w64}
 use mir.ValLaws.{toZ-ofZ}
 use Rattle.definition.specs.Verdict.{badCode, badWindow, badTarget, badBase}
 use Rattle.normalizer.specs.Asked.{asked}
-use Rattle.verdicts.proofs.Answers.{refused-met}
+use Rattle.normalizer.proofs.Answers.{refused-met}
 use Rattle.normalizer.proofs.Rows.{row-1, row-2, row-3, row-4, row-5, past-reading, read-outside, read-within, read-ordered, target-short, window-inside}
 use borrow.Author.Needs.{needs}
 use Rattle.normalizer.proofs.normalize.Statement.{statement}

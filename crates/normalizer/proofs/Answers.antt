@@ -15,7 +15,7 @@ use Rattle.definition.specs.Verdict.{refused}
 use Rattle.definition.specs.Reply.{written, outcomeOf, referenceOut, alternativeOut, Met}
 use Rattle.definition.proofs.Pieces.{piece-for-holds}
 use Rattle.spelling.specs.Asked.{Ranged}
-use Rattle.verdicts.specs.Passed.{Passed}
+use Rattle.normalizer.specs.Passed.{Passed}
 
 pub ranged : {target : List ℕ} {kind : Kind} {exons : List ℕ} {start end : ℕ} {edit : Edit} {alternative : List ℕ} {window : ℕ}
     → Passed target kind exons start end edit alternative window → (a b : Bound) (p : Piece) → pieceFor kind exons a b start end ≡ InPiece p

@@ -7,7 +7,7 @@ ghost use Rattle.definition.specs.Piece.{pieceFor};
 ghost use Rattle.definition.specs.Verdict.{afterShortcuts, shortcut};
 ghost use Rattle.definition.specs.Reply.{Met};
 ghost use Rattle.buffers.specs.Asked.{Room};
-ghost use Rattle.verdicts.specs.Passed.{Passed, rangeVerdict};
+ghost use Rattle.normalizer.specs.Passed.{Passed, rangeVerdict};
 use definition::Bound;
 use definition::Direction;
 use definition::Edit;
@@ -72,7 +72,7 @@ fn answer_passed(
 }
 
 // Rows 6 to 10, of a range that passes row 5; then the answer.
-pub fn normalize_range(
+pub(crate) fn normalize_range(
     target: &[u8],
     kind: Kind,
     exons: &[u8],

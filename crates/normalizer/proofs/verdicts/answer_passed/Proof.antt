@@ -1,4 +1,4 @@
--- `verdicts::answer_passed` meets its contract: an answer at once is of the class that the way tells; otherwise the change moves in the piece that was
+-- `normalizer::verdicts::answer_passed` meets its contract: an answer at once is of the class that the way tells; otherwise the change moves in the piece that was
 -- found, or its row refuses. Assumes nothing.
 use mathlib.Core.Path.{_≡_, sym, ap, _∙_}
 use Prim.Native.Nat.{ℕ}
@@ -9,10 +9,10 @@ use Rattle.definition.specs.Verdict.{afterShortcuts, afterPiece}
 use Rattle.shortcuts.specs.declared.Way.the-variants.{AtOnce, Later}
 use Rattle.shortcuts.proofs.Ways.{way-named}
 use Rattle.shortcuts.proofs.InPlace.{way-reads}
-use Rattle.verdicts.proofs.Answers.{ranged, refused-met}
+use Rattle.normalizer.proofs.Answers.{ranged, refused-met}
 use borrow.Author.Needs.{needs}
-use Rattle.verdicts.proofs.answer_passed.Statement.{statement}
-use Rattle.verdicts.proofs.answer_passed.Tie as tie
+use Rattle.normalizer.proofs.verdicts.answer_passed.Statement.{statement}
+use Rattle.normalizer.proofs.verdicts.answer_passed.Tie as tie
 
 differs : {class : Class} → AtOnce class ≡ Later → ⊥
 differs e =

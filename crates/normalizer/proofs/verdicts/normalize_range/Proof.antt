@@ -1,11 +1,11 @@
--- `verdicts::normalize_range` meets its contract: each test is its row's, in the table's order. A row's law goes into `rw` by its bare name; what it asks
+-- `normalizer::verdicts::normalize_range` meets its contract: each test is its row's, in the table's order. A row's law goes into `rw` by its bare name; what it asks
 -- of the rows before is found among the facts bound above it. Assumes nothing.
 use mathlib.Core.Path.{sym, _∙_}
-use Rattle.verdicts.proofs.Answers.{refused-met}
-use Rattle.verdicts.proofs.Rows.{row-6, row-7, row-8, row-9, row-10, past-row-10, lengths-inside, room-inside, tables-inside}
+use Rattle.normalizer.proofs.Answers.{refused-met}
+use Rattle.normalizer.proofs.LaterRows.{row-6, row-7, row-8, row-9, row-10, past-row-10, lengths-inside, room-inside, tables-inside}
 use borrow.Author.Needs.{needs}
-use Rattle.verdicts.proofs.normalize_range.Statement.{statement}
-use Rattle.verdicts.proofs.normalize_range.Tie as tie
+use Rattle.normalizer.proofs.verdicts.normalize_range.Statement.{statement}
+use Rattle.normalizer.proofs.verdicts.normalize_range.Tie as tie
 
 bad-insertion-requires : tie.Need-bad-insertion-requires
 bad-insertion-requires c κs = search needs

@@ -21,7 +21,7 @@ use Rattle.definition.specs.Piece.{tablesHold, pieceFor}
 use Rattle.pieces.specs.ReadInOrder.{ReadInOrder}
 use Rattle.pieces.proofs.Within.{table-in-order}
 use Rattle.buffers.specs.Asked.{Room}
-use Rattle.verdicts.specs.Passed.{rangeVerdict}
+use Rattle.normalizer.specs.Passed.{rangeVerdict}
 
 -- what the rows that were passed say
 pub lengths-inside : (edit : Edit) (start end : ℕ) (alternative : List ℕ) → exceeds edit start end alternative ≡ false
