@@ -9,22 +9,20 @@ ghost use lib.ListN.{length};
 use crate::replays::Compared;
 use libc::STDOUT_FILENO;
 
-// A record that was replayed: whether the file has the whole of it, whether its answer is the stored one, what was answered, and the place
-// behind it.
+// A record that was replayed: whether the file has the whole of it, whether its answer is the stored one, the verdict, and the place behind it.
+// A verdict is the number of an answer's class, or 6 more than that of a refusal.
 struct Replayed {
     whole: bool,
     agrees: bool,
-    refusal: u32,
-    class: u32,
+    verdict: usize,
     to: usize,
 }
 
-// How many records were replayed and agreed, and of those that agreed how many had each class and each refusal; number 0 is none.
+// How many records were replayed and agreed, and of those that agreed how many had each verdict.
 struct Totals {
     replayed: u32,
     agreed: u32,
-    classes: [u32; 17],
-    refusals: [u32; 17],
+    verdicts: [u32; 23],
 }
 
 fn say(words: &[u8]) {
@@ -57,6 +55,13 @@ fn say_difference(number: u32, compared: Compared) {
     say(b"\n");
 }
 
+fn verdict_of(compared: Compared) -> usize {
+    if compared.refusal == 0 {
+        return compared.class as usize;
+    }
+    compared.refusal as usize + 6
+}
+
 // The record at a place of the file, replayed.
 fn replay(file: &[u8], at: usize, number: u32) -> Replayed
     requires { ⌜ length (now file) ≤ 524288 ⌝ }
@@ -67,8 +72,7 @@ fn replay(file: &[u8], at: usize, number: u32) -> Replayed
         return Replayed {
             whole: false,
             agrees: false,
-            refusal: 0,
-            class: 0,
+            verdict: 0,
             to: at,
         };
     }
@@ -80,19 +84,17 @@ fn replay(file: &[u8], at: usize, number: u32) -> Replayed
     Replayed {
         whole: true,
         agrees: same,
-        refusal: compared.refusal,
-        class: compared.class,
+        verdict: verdict_of(compared),
         to: stored.to,
     }
 }
 
-// Counts one more of a number. No number is past the table's last, and no count reaches the limit.
-fn raise(table: &mut [u32; 17], number: u32) {
-    if number < 17 {
-        let i = number as usize;
-        let count = table[i];
+// Counts one more of a verdict. None is past the table's last, and no count reaches the limit.
+fn raise(verdicts: &mut [u32; 23], verdict: usize) {
+    if verdict < 23 {
+        let count = verdicts[verdict];
         if count < 4294967295 {
-            table[i] = count + 1;
+            verdicts[verdict] = count + 1;
         }
     }
 }
@@ -102,8 +104,7 @@ fn replay_all(file: &[u8]) -> Totals
     requires { ⌜ length (now file) ≤ 524288 ⌝ }
 {
     let count = records::number(file, 0);
-    let mut classes = [0u32; 17];
-    let mut refusals = [0u32; 17];
+    let mut verdicts = [0u32; 23];
     let mut replayed: u32 = 0;
     let mut agreed: u32 = 0;
     let mut at: usize = 4;
@@ -116,16 +117,14 @@ fn replay_all(file: &[u8]) -> Totals
         at = record.to;
         if record.agrees {
             agreed += 1;
-            raise(&mut classes, record.class);
-            raise(&mut refusals, record.refusal);
+            raise(&mut verdicts, record.verdict);
         }
     }
     say_rest(file.len(), at, replayed, count);
     Totals {
         replayed: replayed,
         agreed: agreed,
-        classes: classes,
-        refusals: refusals,
+        verdicts: verdicts,
     }
 }
 
@@ -142,47 +141,46 @@ fn say_rest(size: usize, at: usize, replayed: u32, count: u32) {
     }
 }
 
-// The line of a class. Line N of the text is the name of class N.
-fn say_class(class: usize, count: u32) {
-    say(lines::line(
-        b"
+// The line of a verdict that was answered: line N of the text is the name of class N, line 6 + N that of refusal N.
+fn say_verdict(verdict: usize, count: u32) {
+    if 0 < count {
+        say(lines::line(
+            b"
 insertion
 duplication
 deletion
 replacement
 inversion
-unchanged",
-        class,
-    ));
-    say(b": ");
-    say_number(count);
-    say(b"\n");
-}
-
-fn say_classes(classes: &[u32; 17]) {
-    let mut class: usize = 1;
-    while class < 7 {
-        say_class(class, classes[class]);
-        class += 1;
-    }
-}
-
-// The line of a refusal that was answered.
-fn say_refusal(row: u32, count: u32) {
-    if 0 < count {
-        say(b"refusal ");
-        say_number(row);
+unchanged
+refusal 1
+refusal 2
+refusal 3
+refusal 4
+refusal 5
+refusal 6
+refusal 7
+refusal 8
+refusal 9
+refusal 10
+refusal 11
+refusal 12
+refusal 13
+refusal 14
+refusal 15
+refusal 16",
+            verdict,
+        ));
         say(b": ");
         say_number(count);
         say(b"\n");
     }
 }
 
-fn say_refusals(refusals: &[u32; 17]) {
-    let mut row: usize = 1;
-    while row < 17 {
-        say_refusal(row as u32, refusals[row]);
-        row += 1;
+fn say_verdicts(verdicts: &[u32; 23]) {
+    let mut verdict: usize = 1;
+    while verdict < 23 {
+        say_verdict(verdict, verdicts[verdict]);
+        verdict += 1;
     }
 }
 
@@ -191,10 +189,8 @@ fn say_totals(totals: Totals) {
     say(b" records replayed, ");
     say_number(totals.agreed);
     say(b" agreed\n");
-    let classes = totals.classes;
-    say_classes(&classes);
-    let refusals = totals.refusals;
-    say_refusals(&refusals);
+    let verdicts = totals.verdicts;
+    say_verdicts(&verdicts);
 }
 
 // A file replayed, or the sentence why it is not.

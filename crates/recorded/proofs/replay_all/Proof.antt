@@ -7,11 +7,11 @@ use Rattle.recorded.proofs.replay_all.Statement.{statement}
 use Rattle.recorded.proofs.replay_all.Tie as tie
 
 abbrev Inv-loop : tie.InvT-loop
-Inv-loop file count classes₀ refusals₀ replayed₀ agreed₀ at₀ classes refusals replayed agreed at =
+Inv-loop file count verdicts₀ replayed₀ agreed₀ at₀ verdicts replayed agreed at =
     (length file ≤ 524288) × ((replayed ≤ count) × (agreed ≤ replayed))
 
 abbrev μ-loop : tie.MeasureT-loop
-μ-loop file count classes₀ refusals₀ replayed₀ agreed₀ at₀ classes refusals replayed agreed at = count - replayed
+μ-loop file count verdicts₀ replayed₀ agreed₀ at₀ verdicts replayed agreed at = count - replayed
 
 number-requires : tie.Need-number-requires Inv-loop μ-loop
 number-requires c κs = search needs
@@ -33,9 +33,6 @@ add-agreed c = search needs
 
 raise-requires : tie.Need-raise-requires Inv-loop μ-loop
 raise-requires c κs = search needs
-
-raise-requires-2 : tie.Need-raise-requires-2 Inv-loop μ-loop
-raise-requires-2 c κs = search needs
 
 loop-less : tie.Need-loop-less Inv-loop μ-loop
 loop-less c = search needs
@@ -68,7 +65,6 @@ replay-all-spec =
     add-replayed
     add-agreed
     raise-requires
-    raise-requires-2
     loop-less
     loop-again
     loop-less-2
