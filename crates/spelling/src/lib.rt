@@ -4,7 +4,6 @@ ghost use mathlib.Core.Bool.{false};
 ghost use mathlib.Core.List.{[]};
 ghost use Prim.Native.Nat.{_≤_, _<_};
 ghost use lib.ListN.{length};
-ghost use Rattle.definition.specs.declared.Edit.the-variants.{Invert};
 ghost use Rattle.definition.specs.Limits.{longestTarget};
 ghost use Rattle.definition.specs.Change.{spelled};
 ghost use Rattle.definition.specs.Verdict.{movedIn};
@@ -93,42 +92,6 @@ fn moved(
     )
 }
 
-// An inversion: the reverse complement of the range takes its place.
-fn inverted(
-    target: &[u8],
-    kind: Kind,
-    direction: Direction,
-    piece: Piece,
-    start: Zero,
-    end: Zero,
-    window: usize,
-    reference_out: &mut [u8],
-    alternative_out: &mut [u8],
-) -> Outcome
-    requires { ⌜ Ranged piece (now target) (start .0) (end .0) window ⌝ }
-    requires { ⌜ Room (now «reference_out») (now «alternative_out») ⌝ }
-    ensures { λ r. ⌜ Met
-        (movedIn direction kind piece (now (target .entry)) (spelled Invert (now (target .entry)) (start .0) (end .0) []))
-        r (now («reference_out» .entry)) (now («reference_out» .exit)) (now («alternative_out» .entry)) (now («alternative_out» .exit)) ⌝ }
-{
-    let from = start.0;
-    let to = end.0;
-    let mut buffer = [0u8; LONGEST_ALLELE];
-    let size = bases::revcomp(&target[from..to], &mut buffer);
-    moved(
-        target,
-        kind,
-        direction,
-        piece,
-        start,
-        end,
-        &buffer[..size],
-        window,
-        reference_out,
-        alternative_out,
-    )
-}
-
 // The two gaps of the change that an edit spells: an insertion goes in behind its first flanking base, a duplication's copy behind its range.
 fn gaps_of(edit: Edit, start: Zero, end: Zero) -> Gaps
     requires { ⌜ start .0 ≤ longestTarget ⌝ }
@@ -173,7 +136,7 @@ fn copied<'a>(edit: Edit, target: &'a [u8], start: Zero, end: Zero) -> &'a [u8]
     }
 }
 
-// An edit that reads no alternative: its bases are the range turned round, a copy, or none.
+// An edit that reads no alternative: its bases are the reverse complement of the range, a copy of it, or none.
 fn spell_from_target(
     target: &[u8],
     kind: Kind,
@@ -194,13 +157,18 @@ fn spell_from_target(
         r (now («reference_out» .entry)) (now («reference_out» .exit)) (now («alternative_out» .entry)) (now («alternative_out» .exit)) ⌝ }
 {
     if let Edit::Invert = edit {
-        return inverted(
+        let from = start.0;
+        let to = end.0;
+        let mut buffer = [0u8; LONGEST_ALLELE];
+        let size = bases::revcomp(&target[from..to], &mut buffer);
+        return moved(
             target,
             kind,
             direction,
             piece,
             start,
             end,
+            &buffer[..size],
             window,
             reference_out,
             alternative_out,
