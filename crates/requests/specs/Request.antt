@@ -1,16 +1,13 @@
--- A request of which nothing is said yet, and with one part said. Assumes nothing.
+-- A request of which nothing is said yet, and what an option's values make of it. Assumes nothing.
 use Prim.Native.Nat.{ℕ}
-use Rattle.decimals.specs.declared.Number.{Number}
-use Rattle.decimals.specs.declared.Number.the-variants.{Is, Bad}
-use Rattle.requests.specs.declared.Words.{Words}
-use Rattle.requests.specs.declared.Codes.{Codes}
-use Rattle.requests.specs.declared.Bound.{Bound}
+use mathlib.Core.Bool.{cond}
+use lib.Dec.{eqb}
+use Rattle.requests.specs.Names.{Target, File, Exons, Alternative, Kind, Edit, Direction, Window, CdsStart, CdsEnd, Cds, Range}
 use Rattle.requests.specs.declared.Bound.the-variants.{Unbound, At}
+use Rattle.requests.specs.declared.Bounds.{Bounds}
 use Rattle.requests.specs.declared.Interval.the-variants.{Nowhere, Between}
 use Rattle.requests.specs.declared.Request.{Request}
-use Rattle.requests.specs.declared.Fault.the-variants.{BadKind, BadEdit, BadDirection, BadWindow, BadRange, BadBound}
-use Rattle.requests.specs.declared.Step.{Step}
-use Rattle.requests.specs.declared.Step.the-variants.{Next, Wrong}
+use Rattle.requests.specs.declared.Values.{Values}
 
 -- where a word that was not given begins: past every text
 abbrev pub noWord : ℕ
@@ -29,76 +26,34 @@ nothing = record {
   range = Nowhere;
 }
 
-module _ (asked : Request) where
-  abbrev withWords : Words → Request
-  withWords words = record { words = words; codes = asked .codes; bounds = asked .bounds; range = asked .range }
+-- each bound is as its option or the option of both says, and as it was where another option is given
+unfoldable pub withBounds : Bounds → Values → Bounds
+withBounds bounds values =
+    let is = eqb (values .option) in
+    record {
+      start = cond (is CdsStart) (At (values .first)) (cond (is Cds) (At (values .first)) (bounds .start));
+      end = cond (is CdsEnd) (At (values .first)) (cond (is Cds) (At (values .second)) (bounds .end));
+    }
 
-  abbrev withCodes : Codes → Request
-  withCodes codes = record { words = asked .words; codes = codes; bounds = asked .bounds; range = asked .range }
-
-  abbrev pub withBounds : Bound → Bound → Request
-  withBounds start end = record { words = asked .words; codes = asked .codes; bounds = record { start = start; end = end }; range = asked .range }
-
-module _ (asked : Request) (word : ℕ) where
-  abbrev pub withTarget : Request
-  withTarget =
-      let given = asked .words in
-      withWords asked (record { target = word; file = given .file; exons = given .exons; alternative = given .alternative })
-
-  abbrev pub withFile : Request
-  withFile =
-      let given = asked .words in
-      withWords asked (record { target = given .target; file = word; exons = given .exons; alternative = given .alternative })
-
-  abbrev pub withExons : Request
-  withExons =
-      let given = asked .words in
-      withWords asked (record { target = given .target; file = given .file; exons = word; alternative = given .alternative })
-
-  abbrev pub withAlternative : Request
-  withAlternative =
-      let given = asked .words in
-      withWords asked (record { target = given .target; file = given .file; exons = given .exons; alternative = word })
-
--- a word that stands for no number is the option's fault
-abbrev pub withKind : Request → Number → Step
-withKind asked Bad = Wrong BadKind
-withKind asked (Is code) =
-    let given = asked .codes in
-    Next (withCodes asked (record { kind = code; edit = given .edit; direction = given .direction; window = given .window }))
-
-abbrev pub withEdit : Request → Number → Step
-withEdit asked Bad = Wrong BadEdit
-withEdit asked (Is code) =
-    let given = asked .codes in
-    Next (withCodes asked (record { kind = given .kind; edit = code; direction = given .direction; window = given .window }))
-
-abbrev pub withDirection : Request → Number → Step
-withDirection asked Bad = Wrong BadDirection
-withDirection asked (Is code) =
-    let given = asked .codes in
-    Next (withCodes asked (record { kind = given .kind; edit = given .edit; direction = code; window = given .window }))
-
-abbrev pub withWindow : Request → Number → Step
-withWindow asked Bad = Wrong BadWindow
-withWindow asked (Is number) =
-    let given = asked .codes in
-    Next (withCodes asked (record { kind = given .kind; edit = given .edit; direction = given .direction; window = number }))
-
-abbrev pub withCdsStart : Request → Number → Step
-withCdsStart asked Bad = Wrong BadBound
-withCdsStart asked (Is start) = Next (withBounds asked (At start) (asked .bounds .end))
-
-abbrev pub withCdsEnd : Request → Number → Step
-withCdsEnd asked Bad = Wrong BadBound
-withCdsEnd asked (Is end) = Next (withBounds asked (asked .bounds .start) (At end))
-
-abbrev pub withCds : Request → Number → Number → Step
-withCds asked Bad second = Wrong BadBound
-withCds asked (Is start) Bad = Wrong BadBound
-withCds asked (Is start) (Is end) = Next (withBounds asked (At start) (At end))
-
-abbrev pub withRange : Request → Number → Number → Step
-withRange asked Bad second = Wrong BadRange
-withRange asked (Is start) Bad = Wrong BadRange
-withRange asked (Is start) (Is end) = Next (record { words = asked .words; codes = asked .codes; bounds = asked .bounds; range = Between start end })
+-- so is each part of a request
+unfoldable pub withValues : Request → Values → Request
+withValues asked values =
+    let is = eqb (values .option) in
+    let words = asked .words in
+    let codes = asked .codes in
+    record {
+      words = record {
+        target = cond (is Target) (values .at) (words .target);
+        file = cond (is File) (values .at) (words .file);
+        exons = cond (is Exons) (values .at) (words .exons);
+        alternative = cond (is Alternative) (values .at) (words .alternative);
+      };
+      codes = record {
+        kind = cond (is Kind) (values .first) (codes .kind);
+        edit = cond (is Edit) (values .first) (codes .edit);
+        direction = cond (is Direction) (values .first) (codes .direction);
+        window = cond (is Window) (values .first) (codes .window);
+      };
+      bounds = withBounds (asked .bounds) values;
+      range = cond (is Range) (Between (values .first) (values .second)) (asked .range);
+    }

@@ -2,12 +2,9 @@
 mod names;
 
 ghost use mathlib.Core.Path.{_≡_};
-ghost use Prim.Native.Nat.{_+_, _≤_, min};
-ghost use lib.ListN.{length};
-ghost use Rattle.requests.specs.Request.{nothing, withKind, withEdit, withDirection, withWindow, withBounds, withCdsStart, withCdsEnd, withCds, withRange};
-ghost use Rattle.requests.specs.Options.{withOption, valuesOf, withNext, afterOption, requestOf};
+ghost use Rattle.requests.specs.Request.{nothing, withBounds, withValues};
+ghost use Rattle.requests.specs.Options.{Onward, faultOf, valuesAt, stepAt, requestOf};
 use decimals::Number;
-use names::Name;
 
 // Where a word that was not given begins: past every text, so that it reads as the empty word.
 pub const NO_WORD: usize = 18446744073709551615;
@@ -69,9 +66,19 @@ pub enum Fault {
     BadBound,
 }
 
-// What an option leaves: a request, or what is wrong with it.
-pub enum Step {
-    Next(Request),
+// An option with its values: where the first of them begins, the numbers that they stand for, and where the option after it begins.
+// A number that it doesn't have is 0.
+pub(crate) struct Values {
+    pub(crate) option: u32,
+    pub(crate) at: usize,
+    pub(crate) first: u32,
+    pub(crate) second: u32,
+    pub(crate) next: usize,
+}
+
+// What an option comes to: its values, or what is wrong with it.
+pub(crate) enum Step {
+    Next(Values),
     Wrong(Fault),
 }
 
@@ -106,184 +113,117 @@ fn nothing() -> Request
     }
 }
 
-fn with_kind(asked: Request, number: Number) -> Step
-    ensures { λ r. ⌜ r ≡ withKind asked number ⌝ }
+// The bounds of the CDS with an option's values.
+fn with_bounds(bounds: Bounds, values: Values) -> Bounds
+    ensures { λ r. ⌜ r ≡ withBounds bounds values ⌝ }
 {
-    let Number::Is(code) = number else {
-        return Step::Wrong(Fault::BadKind);
-    };
-    let mut request = asked;
-    request.codes.kind = code;
-    Step::Next(request)
+    let option = values.option;
+    let start = Bound::At(values.first);
+    let end = Bound::At(values.second);
+    match option {
+        names::CDS_START => {
+            let end = bounds.end;
+            Bounds { start, end }
+        }
+        names::CDS_END => {
+            let start = bounds.start;
+            let end = Bound::At(values.first);
+            Bounds { start, end }
+        }
+        names::CDS => Bounds { start, end },
+        _ => bounds,
+    }
 }
 
-fn with_edit(asked: Request, number: Number) -> Step
-    ensures { λ r. ⌜ r ≡ withEdit asked number ⌝ }
+// A request with an option's values.
+fn with_values(asked: Request, values: Values) -> Request
+    ensures { λ r. ⌜ r ≡ withValues asked values ⌝ }
 {
-    let Number::Is(code) = number else {
-        return Step::Wrong(Fault::BadEdit);
-    };
+    let option = values.option;
     let mut request = asked;
-    request.codes.edit = code;
-    Step::Next(request)
-}
-
-fn with_direction(asked: Request, number: Number) -> Step
-    ensures { λ r. ⌜ r ≡ withDirection asked number ⌝ }
-{
-    let Number::Is(code) = number else {
-        return Step::Wrong(Fault::BadDirection);
-    };
-    let mut request = asked;
-    request.codes.direction = code;
-    Step::Next(request)
-}
-
-fn with_window(asked: Request, number: Number) -> Step
-    ensures { λ r. ⌜ r ≡ withWindow asked number ⌝ }
-{
-    let Number::Is(width) = number else {
-        return Step::Wrong(Fault::BadWindow);
-    };
-    let mut request = asked;
-    request.codes.window = width;
-    Step::Next(request)
-}
-
-fn with_bounds(asked: Request, start: Bound, end: Bound) -> Request
-    ensures { λ r. ⌜ r ≡ withBounds asked start end ⌝ }
-{
-    let bounds = Bounds { start, end };
-    let mut request = asked;
-    request.bounds = bounds;
+    match option {
+        names::TARGET => request.words.target = values.at,
+        names::FILE => request.words.file = values.at,
+        names::EXONS => request.words.exons = values.at,
+        names::ALTERNATIVE => request.words.alternative = values.at,
+        names::KIND => request.codes.kind = values.first,
+        names::EDIT => request.codes.edit = values.first,
+        names::DIRECTION => request.codes.direction = values.first,
+        names::WINDOW => request.codes.window = values.first,
+        names::RANGE => {
+            let words = asked.words;
+            let codes = asked.codes;
+            let bounds = asked.bounds;
+            return Request {
+                words,
+                codes,
+                bounds,
+                range: Interval::Between(values.first, values.second),
+            };
+        }
+        _ => request.bounds = with_bounds(asked.bounds, values),
+    }
     request
 }
 
-fn with_cds_start(asked: Request, number: Number) -> Step
-    ensures { λ r. ⌜ r ≡ withCdsStart asked number ⌝ }
+// The fault of an option whose value stands for no number.
+fn fault_of(option: u32) -> Fault
+    ensures { λ r. ⌜ r ≡ faultOf option ⌝ }
 {
-    let Number::Is(start) = number else {
-        return Step::Wrong(Fault::BadBound);
-    };
-    let bounds = asked.bounds;
-    let end = bounds.end;
-    Step::Next(with_bounds(asked, Bound::At(start), end))
-}
-
-fn with_cds_end(asked: Request, number: Number) -> Step
-    ensures { λ r. ⌜ r ≡ withCdsEnd asked number ⌝ }
-{
-    let Number::Is(end) = number else {
-        return Step::Wrong(Fault::BadBound);
-    };
-    let bounds = asked.bounds;
-    let start = bounds.start;
-    Step::Next(with_bounds(asked, start, Bound::At(end)))
-}
-
-fn with_cds(asked: Request, first: Number, second: Number) -> Step
-    ensures { λ r. ⌜ r ≡ withCds asked first second ⌝ }
-{
-    let Number::Is(start) = first else {
-        return Step::Wrong(Fault::BadBound);
-    };
-    let Number::Is(end) = second else {
-        return Step::Wrong(Fault::BadBound);
-    };
-    Step::Next(with_bounds(asked, Bound::At(start), Bound::At(end)))
-}
-
-fn with_range(asked: Request, first: Number, second: Number) -> Step
-    ensures { λ r. ⌜ r ≡ withRange asked first second ⌝ }
-{
-    let Number::Is(start) = first else {
-        return Step::Wrong(Fault::BadRange);
-    };
-    let Number::Is(end) = second else {
-        return Step::Wrong(Fault::BadRange);
-    };
-    let words = asked.words;
-    let codes = asked.codes;
-    let bounds = asked.bounds;
-    Step::Next(Request {
-        words,
-        codes,
-        bounds,
-        range: Interval::Between(start, end),
-    })
-}
-
-// A request with an option, its value, which begins at an index, and the word after that.
-fn with_option(asked: Request, name: Name, word: &[u8], other: &[u8], at: usize) -> Step
-    ensures { λ r. ⌜ r ≡ withOption asked name (now (word .entry)) (now (other .entry)) at ⌝ }
-{
-    let mut request = asked;
-    match name {
-        Name::Target => request.words.target = at,
-        Name::File => request.words.file = at,
-        Name::Exons => request.words.exons = at,
-        Name::Alternative => request.words.alternative = at,
-        Name::Kind => return with_kind(asked, names::kind_code(word)),
-        Name::Edit => return with_edit(asked, names::edit_code(word)),
-        Name::Direction => return with_direction(asked, names::direction_code(word)),
-        Name::Window => return with_window(asked, decimals::decimal(word)),
-        Name::CdsStart => return with_cds_start(asked, decimals::decimal(word)),
-        Name::CdsEnd => return with_cds_end(asked, decimals::decimal(word)),
-        Name::Cds => return with_cds(asked, decimals::decimal(word), decimals::decimal(other)),
-        Name::Range => return with_range(asked, decimals::decimal(word), decimals::decimal(other)),
-        Name::Unknown => return Step::Wrong(Fault::UnknownOption),
-    }
-    Step::Next(request)
-}
-
-// How many values an option has.
-fn values_of(name: Name) -> usize
-    ensures { λ r. ⌜ r ≡ valuesOf name ⌝ }
-{
-    match name {
-        Name::Target => 1,
-        Name::File => 1,
-        Name::Exons => 1,
-        Name::Alternative => 1,
-        Name::Kind => 1,
-        Name::Edit => 1,
-        Name::Direction => 1,
-        Name::Window => 1,
-        Name::CdsStart => 1,
-        Name::CdsEnd => 1,
-        Name::Cds => 2,
-        Name::Range => 2,
-        Name::Unknown => 0,
+    match option {
+        names::KIND => Fault::BadKind,
+        names::EDIT => Fault::BadEdit,
+        names::DIRECTION => Fault::BadDirection,
+        names::WINDOW => Fault::BadWindow,
+        names::RANGE => Fault::BadRange,
+        _ => Fault::BadBound,
     }
 }
 
-// A request with the option that begins at an index.
-fn with_next(asked: Request, text: &[u8], at: usize) -> Step
-    ensures { λ r. ⌜ r ≡ withNext asked (now (text .entry)) at ⌝ }
+// The values of an option, the first of which begins at an index.
+fn values_at(text: &[u8], option: u32, at: usize) -> Step
+    ensures { λ r. ⌜ r ≡ valuesAt (now (text .entry)) option at ⌝ }
+    ensures { λ r. ⌜ Onward (now (text .entry)) at r ⌝ }
 {
-    let name = names::name_of(lines::word(text, at));
-    if values_of(name) == 0 {
+    let mut values = Values {
+        option,
+        at,
+        first: 0,
+        second: 0,
+        next: text::after(text, at, 0),
+    };
+    if option < names::KIND {
+        return Step::Next(values);
+    }
+    let Number::Is(first) = names::number_of(option, lines::word(text, at)) else {
+        return Step::Wrong(fault_of(option));
+    };
+    values.first = first;
+    if option < names::CDS {
+        return Step::Next(values);
+    }
+    let other = values.next;
+    let Number::Is(second) = decimals::decimal(lines::word(text, other)) else {
+        return Step::Wrong(fault_of(option));
+    };
+    values.second = second;
+    values.next = text::after(text, other, 0);
+    Step::Next(values)
+}
+
+// The option that begins at an index, with its values.
+fn step_at(text: &[u8], at: usize) -> Step
+    ensures { λ r. ⌜ r ≡ stepAt (now (text .entry)) at ⌝ }
+    ensures { λ r. ⌜ Onward (now (text .entry)) at r ⌝ }
+{
+    let Number::Is(option) = names::option_of(lines::word(text, at)) else {
         return Step::Wrong(Fault::UnknownOption);
-    }
+    };
     let value = text::after(text, at, 0);
     if value == text.len() {
         return Step::Wrong(Fault::NoValue);
     }
-    let other = lines::word(text, text::after(text, value, 0));
-    with_option(asked, name, lines::word(text, value), other, value)
-}
-
-// Where the option after it begins.
-fn after_option(text: &[u8], at: usize) -> usize
-    ensures { λ r. ⌜ r ≡ afterOption (now (text .entry)) at ⌝ }
-    ensures { λ r. ⌜ (r ≤ length (now (text .entry))) × (min (at + 1) (length (now (text .entry))) ≤ r) ⌝ }
-{
-    let name = names::name_of(lines::word(text, at));
-    let behind = text::after(text, text::after(text, at, 0), 0);
-    if values_of(name) == 2 {
-        return text::after(text, behind, 0);
-    }
-    behind
+    values_at(text, option, value)
 }
 
 // The request that words make.
@@ -293,11 +233,13 @@ pub fn request_of(text: &[u8]) -> Asked
     let mut request = nothing();
     let mut at = 0;
     while at < text.len() {
-        match with_next(request, text, at) {
-            Step::Next(next) => request = next,
+        match step_at(text, at) {
+            Step::Next(values) => {
+                request = with_values(request, values);
+                at = values.next;
+            }
             Step::Wrong(fault) => return Asked::Broken(fault, at),
         }
-        at = after_option(text, at);
     }
     Asked::Whole(request)
 }

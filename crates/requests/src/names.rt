@@ -1,35 +1,35 @@
-// The words of the command line: names of options, and the codes of kinds, edits and directions by their words.
+// The words of the command line: the options, and the codes of kinds, edits and directions, by their words.
 ghost use mathlib.Core.Path.{_≡_};
 ghost use Prim.Native.Nat.{_<_};
 ghost use lib.ListN.{length};
-ghost use Rattle.definition.specs.Bases.{sameBases};
 ghost use Rattle.text.specs.Text.{partsAt};
-ghost use Rattle.requests.specs.Names.{placeIn, optionAt, nameOf, kindCode, editCode, directionCode};
+ghost use Rattle.requests.specs.Names.{placeIn, optionOf, numberOf};
 use decimals::Number;
 
-// The options, by name.
-pub(crate) enum Name {
-    Target,
-    File,
-    Exons,
-    Alternative,
-    Kind,
-    Edit,
-    Direction,
-    Window,
-    CdsStart,
-    CdsEnd,
-    Cds,
-    Range,
-    Unknown,
-}
+// The options, by the numbers of their lines below. The value of the first four is a word that is read later, and the last two have two numbers.
+pub(crate) const TARGET: u32 = 0;
 
-// Whether a word is this one.
-fn is(word: &[u8], this: &[u8]) -> bool
-    ensures { λ r. ⌜ r ≡ sameBases (now (word .entry)) (now (this .entry)) ⌝ }
-{
-    check::same(word, this)
-}
+pub(crate) const FILE: u32 = 1;
+
+pub(crate) const EXONS: u32 = 2;
+
+pub(crate) const ALTERNATIVE: u32 = 3;
+
+pub(crate) const KIND: u32 = 4;
+
+pub(crate) const EDIT: u32 = 5;
+
+pub(crate) const DIRECTION: u32 = 6;
+
+pub(crate) const WINDOW: u32 = 7;
+
+pub(crate) const CDS_START: u32 = 8;
+
+pub(crate) const CDS_END: u32 = 9;
+
+pub(crate) const CDS: u32 = 10;
+
+pub(crate) const RANGE: u32 = 11;
 
 // The number of the line that a word is, which counts from 0.
 fn line_of(word: &[u8], lines: &[u8]) -> Number
@@ -40,7 +40,7 @@ fn line_of(word: &[u8], lines: &[u8]) -> Number
     let mut place: u32 = 0;
     while from <= lines.len() {
         let end = text::find(lines, from, b'\n');
-        if is(word, text::part(lines, from, end)) {
+        if check::same(word, text::part(lines, from, end)) {
             return Number::Is(place);
         }
         if end == lines.len() {
@@ -52,65 +52,34 @@ fn line_of(word: &[u8], lines: &[u8]) -> Number
     Number::Bad
 }
 
-// The options in the order of their lines below.
-fn option_at(place: u32) -> Name
-    ensures { λ r. ⌜ r ≡ optionAt place ⌝ }
+pub(crate) fn option_of(word: &[u8]) -> Number
+    ensures { λ r. ⌜ r ≡ optionOf (now (word .entry)) ⌝ }
 {
-    match place {
-        0 => Name::Edit,
-        1 => Name::Range,
-        2 => Name::Alternative,
-        3 => Name::Direction,
-        4 => Name::Window,
-        5 => Name::Target,
-        6 => Name::File,
-        7 => Name::Kind,
-        8 => Name::Exons,
-        9 => Name::Cds,
-        10 => Name::CdsStart,
-        11 => Name::CdsEnd,
-        _ => Name::Unknown,
-    }
-}
-
-pub(crate) fn name_of(word: &[u8]) -> Name
-    ensures { λ r. ⌜ r ≡ nameOf (now (word .entry)) ⌝ }
-{
-    match line_of(
+    line_of(
         word,
-        b"--edit
---range
+        b"--target
+--file
+--exons
 --alt
+--kind
+--edit
 --direction
 --window
---target
---file
---kind
---exons
---cds
 --cds-start
---cds-end",
-    ) {
-        Number::Is(place) => option_at(place),
-        Number::Bad => Name::Unknown,
+--cds-end
+--cds
+--range",
+    )
+}
+
+// The number that an option's word stands for: the codes of kinds, edits and directions count from 0 in the order of their words.
+pub(crate) fn number_of(option: u32, word: &[u8]) -> Number
+    ensures { λ r. ⌜ r ≡ numberOf option (now (word .entry)) ⌝ }
+{
+    match option {
+        KIND => line_of(word, b"open\ntranscript\ncrossing"),
+        EDIT => line_of(word, b"ins\ndup\ndel\nreplace\ninv"),
+        DIRECTION => line_of(word, b"right\nleft"),
+        _ => decimals::decimal(word),
     }
-}
-
-// The codes of kinds, edits and directions count from 0 in the order of their words.
-pub(crate) fn kind_code(word: &[u8]) -> Number
-    ensures { λ r. ⌜ r ≡ kindCode (now (word .entry)) ⌝ }
-{
-    line_of(word, b"open\ntranscript\ncrossing")
-}
-
-pub(crate) fn edit_code(word: &[u8]) -> Number
-    ensures { λ r. ⌜ r ≡ editCode (now (word .entry)) ⌝ }
-{
-    line_of(word, b"ins\ndup\ndel\nreplace\ninv")
-}
-
-pub(crate) fn direction_code(word: &[u8]) -> Number
-    ensures { λ r. ⌜ r ≡ directionCode (now (word .entry)) ⌝ }
-{
-    line_of(word, b"right\nleft")
 }

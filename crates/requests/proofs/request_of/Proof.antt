@@ -3,7 +3,7 @@ use Prim.Native.Nat.{_-_}
 use native.Mathlib.Omega.{arith}
 use borrow.Author.Needs.{needs}
 use lib.ListN.{length}
-use Rattle.requests.proofs.Reading.{Reading, start, wrong, next, done}
+use Rattle.requests.proofs.Reading.{Reading, start, wrong, further, next, done}
 use Rattle.requests.proofs.request_of.Statement.{statement}
 use Rattle.requests.proofs.request_of.Tie as tie
 
@@ -19,11 +19,30 @@ nothing-requires c κs = search needs
 loop-holds : tie.Need-loop-holds Inv-loop μ-loop
 loop-holds c = start _ (c .nothing .ensures)
 
-with-next-requires : tie.Need-with-next-requires Inv-loop μ-loop
-with-next-requires c κs = search needs
+step-at-requires : tie.Need-step-at-requires Inv-loop μ-loop
+step-at-requires c κs = search needs
 
-enum-known-next : tie.Need-enum-known-next Inv-loop μ-loop
-enum-known-next c = search needs
+enum-known-values : tie.Need-enum-known-values Inv-loop μ-loop
+enum-known-values c = search needs
+
+with-values-requires : tie.Need-with-values-requires Inv-loop μ-loop
+with-values-requires c κs = search needs
+
+loop-less : tie.Need-loop-less Inv-loop μ-loop
+loop-less c =
+    let values = c .before .before in
+    let step = values .before .before in
+    let said = step .step-at .ensures in
+    let inside = step .before .loop-test .taken in
+    let on = further _ (step .before .before .loop .inv) inside (said .0) (said .1) (values .values .given .1) in
+    omega (arith, on, inside)
+
+loop-again : tie.Need-loop-again Inv-loop μ-loop
+loop-again c =
+    let values = c .before .before in
+    let step = values .before .before in
+    let said = step .step-at .ensures in
+    next _ (step .before .before .loop .inv) (step .before .loop-test .taken) (said .0) (said .1) (values .values .given .1) (c .with-values .ensures)
 
 enum-known-fault : tie.Need-enum-known-fault Inv-loop μ-loop
 enum-known-fault c = search needs
@@ -31,20 +50,7 @@ enum-known-fault c = search needs
 returns : tie.Need-returns Inv-loop μ-loop
 returns c =
     let step = c .before .before .before in
-    wrong _ (step .before .before .loop .inv) (step .before .loop-test .taken) (step .with-next .ensures) (c .before .fault .given .1)
-
-after-option-requires : tie.Need-after-option-requires Inv-loop μ-loop
-after-option-requires c κs = search needs
-
-loop-less : tie.Need-loop-less Inv-loop μ-loop
-loop-less c = search needs
-
-loop-again : tie.Need-loop-again Inv-loop μ-loop
-loop-again c =
-    let step = c .before .before .before .before in
-    let taken = c .before .before .next .given .1 in
-    let after = c .after-option .ensures in
-    next _ (step .before .before .loop .inv) (step .before .loop-test .taken) (step .with-next .ensures) taken (after .0) (after .1 .0) (omega arith)
+    wrong _ (step .before .before .loop .inv) (step .before .loop-test .taken) (step .step-at .ensures .0) (c .before .fault .given .1)
 
 returns-2 : tie.Need-returns-2 Inv-loop μ-loop
 returns-2 c = done _ (c .before .loop .inv) (c .loop-test .left)
@@ -57,11 +63,11 @@ request-of-spec =
     μ-loop
     nothing-requires
     loop-holds
-    with-next-requires
-    enum-known-next
-    enum-known-fault
-    returns
-    after-option-requires
+    step-at-requires
+    enum-known-values
+    with-values-requires
     loop-less
     loop-again
+    enum-known-fault
+    returns
     returns-2)

@@ -27,24 +27,24 @@ find-requires c κs = search needs
 part-requires : tie.Need-part-requires Inv-loop μ-loop
 part-requires c κs = search needs
 
-is-requires : tie.Need-is-requires Inv-loop μ-loop
-is-requires c κs = search needs
+same-requires : tie.Need-same-requires Inv-loop μ-loop
+same-requires c κs = search needs
 
 returns : tie.Need-returns Inv-loop μ-loop
 returns c =
-    let called = c .before in
-    let parted = called .before in
+    let said = c .before in
+    let parted = said .before in
     let line = parted .before .find .ensures in
     let at = parted .before .before .before .loop in
-    found _ _ (at .from) (at .place) (at .inv .2) (at .inv .1) (line .0) (line .1 .0) (parted .part .ensures) (called .is .ensures) (c .if1 .taken)
+    found _ _ (at .from) (at .place) (at .inv .2) (at .inv .1) (line .0) (line .1 .0) (parted .part .ensures) (said .same .ensures) (c .if1 .taken)
 
 returns-2 : tie.Need-returns-2 Inv-loop μ-loop
 returns-2 c =
-    let called = c .before .before in
-    let parted = called .before in
+    let said = c .before .before in
+    let parted = said .before in
     let line = parted .before .find .ensures in
     let at = parted .before .before .before .loop in
-    last _ _ (at .from) (at .place) (at .inv .2) (at .inv .1) (line .0) (line .1 .0) (parted .part .ensures) (called .is .ensures) (c .before .if1 .left) (c .if2 .taken)
+    last _ _ (at .from) (at .place) (at .inv .2) (at .inv .1) (line .0) (line .1 .0) (parted .part .ensures) (said .same .ensures) (c .before .if1 .left) (c .if2 .taken)
 
 add-from : tie.Need-add-from Inv-loop μ-loop
 add-from c = search needs
@@ -57,12 +57,12 @@ loop-less c = search needs
 
 loop-again : tie.Need-loop-again Inv-loop μ-loop
 loop-again c =
-    let called = c .before .before in
-    let parted = called .before in
+    let said = c .before .before in
+    let parted = said .before in
     let line = parted .before .find .ensures in
     let at = parted .before .before .before .loop in
     let other = c .before .if1 .left in
-    let counted = next _ _ (at .from) (at .place) (at .inv .2) (at .inv .1) (line .0) (line .1 .0) (parted .part .ensures) (called .is .ensures) other (omega arith) in
+    let counted = next _ _ (at .from) (at .place) (at .inv .2) (at .inv .1) (line .0) (line .1 .0) (parted .part .ensures) (said .same .ensures) other (omega arith) in
     (search needs, search needs, counted)
 
 returns-3 : tie.Need-returns-3 Inv-loop μ-loop
@@ -77,7 +77,7 @@ line-of-spec =
     loop-holds
     find-requires
     part-requires
-    is-requires
+    same-requires
     returns
     returns-2
     add-from

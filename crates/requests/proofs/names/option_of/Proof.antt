@@ -1,9 +1,9 @@
--- `requests::names::edit_code` meets its contract: the words are the table's, in its order. Assumes nothing.
+-- `requests::names::option_of` meets its contract: the words are the table's, in its order. Assumes nothing.
 use borrow.Author.Needs.{needs}
 use Rattle.text.specs.Text.{partsAt}
 use Rattle.requests.specs.Names.{meaning, placeIn}
-use Rattle.requests.proofs.names.edit_code.Statement.{statement}
-use Rattle.requests.proofs.names.edit_code.Tie as tie
+use Rattle.requests.proofs.names.option_of.Statement.{statement}
+use Rattle.requests.proofs.names.option_of.Tie as tie
 
 slice-aggregate-line-of : tie.Need-slice-aggregate-line-of
 slice-aggregate-line-of c = search needs
@@ -15,5 +15,5 @@ returns : tie.Need-returns
 unfolding meaning placeIn partsAt
 returns c = c .line-of .ensures
 
-pub edit-code-spec : {M : Type 1} → statement M
-edit-code-spec = tie.close (tie.spec slice-aggregate-line-of line-of-requires returns)
+pub option-of-spec : {M : Type 1} → statement M
+option-of-spec = tie.close (tie.spec slice-aggregate-line-of line-of-requires returns)
