@@ -4,11 +4,13 @@ use mathlib.Core.Path.{_≡_, refl, sym, ap, _∙_}
 use mathlib.Core.List.{List}
 use borrow.Author.Tests.{eq-eqb, ne-eqb}
 use lib.ListN.{length}
-use Rattle.definition.specs.Request as definition
+use lib.IntN.{ℤ}
 use Rattle.definition.specs.declared.Outcome as definition-outcome
 use Rattle.definition.specs.Verdict.{verdict}
 use Rattle.definition.specs.Reply.{Met, written}
+use Rattle.normalizer.specs.Asked.{asked}
 use Rattle.text.specs.Text.{partOf}
+use Rattle.lines.specs.Lines.{wordAt}
 use Rattle.exon_lists.specs.declared.Exons.{Exons}
 use Rattle.exon_lists.specs.declared.Exons.the-variants.{Table, BadPair, TooMany}
 use Rattle.requests.specs.declared.Asked.{Asked}
@@ -28,7 +30,7 @@ use Rattle.targets.specs.Sources.{sourceOf, targetOf, laid, lettersIn}
 use Rattle.targets.proofs.Fronts.{front}
 use Rattle.asking.specs.declared.Reached.{Reached}
 use Rattle.asking.specs.declared.Reached.the-variants.{Outcome, Problem}
-use Rattle.asking.specs.Handed.{handedTo}
+use Rattle.asking.specs.Handed.{positionOf, boundNumber, handedTo}
 use Rattle.asking.specs.Reached.{exonsAt, Came, handed, stopped, onTarget, onRange, onWords, Answers}
 
 module _ {came : Came} {reference alternative : List ℕ} where
@@ -36,10 +38,10 @@ module _ {came : Came} {reference alternative : List ℕ} where
   unfolding written
   stops e = rw e (record { reached = refl; referenceBuffer = refl; alternativeBuffer = refl })
 
-  pub answers : {request : definition.Request} {outcome : definition-outcome.Outcome} {reference′ alternative′ : List ℕ} → came ≡ handed request
-      → Met (verdict request) outcome reference reference′ alternative alternative′
-      → Answers came (Outcome outcome) reference reference′ alternative alternative′
-  answers e m = rw e (record { reached = ap Outcome (m .numbers); referenceBuffer = m .referenceBuffer; alternativeBuffer = m .alternativeBuffer })
+  pub goes-on : {came′ : Came} {r : Reached} {reference′ alternative′ : List ℕ} → came ≡ came′
+      → Answers came′ r reference reference′ alternative alternative′
+      → Answers came r reference reference′ alternative alternative′
+  goes-on e answered = rw e answered
 
 -- what a request comes to on its target, by what its exons come to
 module _ (text : List ℕ) (request : Request) (start end : ℕ) (letters : List ℕ) (referenceRoom alternativeRoom : ℕ) {exons : Exons}
@@ -52,34 +54,40 @@ module _ (text : List ℕ) (request : Request) (start end : ℕ) (letters : List
   unfolding onTarget
   too-many e = rw (sym are ∙ e)
 
-  pub with-table : {size : ℕ} → exons ≡ Table size
-      → onTarget text request start end letters referenceRoom alternativeRoom
-      ≡ handed (handedTo text request start end letters (exonsAt text (request .words .exons) .bytes) referenceRoom alternativeRoom)
-  unfolding onTarget
-  with-table e = rw (sym are ∙ e)
+  -- the normalizer is handed what the request names
+  pub with-table : {size : ℕ} {table word : List ℕ} {cdsStart cdsEnd first last : ℤ} {outcome : definition-outcome.Outcome}
+      {reference reference′ alternative alternative′ : List ℕ}
+      → exons ≡ Table size → table ≡ exonsAt text (request .words .exons) .bytes
+      → cdsStart ≡ boundNumber (request .bounds .start) → cdsEnd ≡ boundNumber (request .bounds .end)
+      → first ≡ positionOf start → last ≡ positionOf end → word ≡ wordAt text (request .words .alternative)
+      → Met
+      (verdict (asked letters (request .codes .kind) table cdsStart cdsEnd first last (request .codes .edit) word (request .codes .direction)
+      (request .codes .window) referenceRoom alternativeRoom))
+      outcome reference reference′ alternative alternative′
+      → Answers (onTarget text request start end letters referenceRoom alternativeRoom) (Outcome outcome) reference reference′ alternative alternative′
+  unfolding onTarget handedTo
+  with-table e is-table is-start is-end is-first is-last is-word met =
+      let m = rw (is-table, is-start, is-end, is-first, is-last, is-word) at met in
+      rw (sym are ∙ e) (record { reached = ap Outcome (m .numbers); referenceBuffer = m .referenceBuffer; alternativeBuffer = m .alternativeBuffer })
 
 -- and on its range, by what its target comes to
 module _ (text : List ℕ) (request : Request) (start end : ℕ) (file : File) (bytes : List ℕ) (referenceRoom alternativeRoom : ℕ)
-    {room : ℕ} (long : room ≡ 65536)
-    {read : Target} (is : read ≡ targetOf room (sourceOf text (request .words .target) (request .words .file) file bytes)) where
+    (room : List ℕ) (long : length room ≡ 65536)
+    {read : Target} (is : read ≡ targetOf (length room) (sourceOf text (request .words .target) (request .words .file) file bytes)) where
   pub unread : {why : Unread} → read ≡ target.Unread why
       → onRange text request start end file bytes referenceRoom alternativeRoom ≡ stopped (UnreadTarget why)
   unfolding onRange
   unread e = rw (sym (rw long at is) ∙ e)
 
-  -- its letters stand at the front of the buffer, and the request goes on with them
-  pub with-letters : (buffer : List ℕ) {buffer′ part : List ℕ} {size : ℕ} {r : Reached} {reference reference′ alternative alternative′ : List ℕ}
-      → room ≡ length buffer → read ≡ target.Letters size → buffer′ ≡ laid (sourceOf text (request .words .target) (request .words .file) file bytes) buffer
-      → part ≡ partOf buffer′ 0 size
-      → Answers (onTarget text request start end part referenceRoom alternativeRoom) r reference reference′ alternative alternative′
-      → Answers (onRange text request start end file bytes referenceRoom alternativeRoom) r reference reference′ alternative alternative′
+  -- its letters stand at the front of the room, and the request goes on with them
+  pub with-letters : {room′ part : List ℕ} {size : ℕ} → read ≡ target.Letters size
+      → room′ ≡ laid (sourceOf text (request .words .target) (request .words .file) file bytes) room → part ≡ partOf room′ 0 size
+      → onRange text request start end file bytes referenceRoom alternativeRoom ≡ onTarget text request start end part referenceRoom alternativeRoom
   unfolding onRange
-  with-letters buffer {buffer′} {part} {size} fits e is-laid is-part answered =
+  with-letters {room′} {part} {size} e is-laid is-part =
       let source = sourceOf text (request .words .target) (request .words .file) file bytes in
-      let letters : part ≡ lettersIn source =
-      is-part ∙ ap (λ (held : List ℕ). partOf held 0 size) is-laid ∙ front source buffer (rw fits at is) e
-      in
-      rw (sym (rw long at is) ∙ e) (rw letters at answered)
+      let letters : part ≡ lettersIn source = is-part ∙ ap (λ (held : List ℕ). partOf held 0 size) is-laid ∙ front source room is e in
+      rw (sym (rw long at is) ∙ e, letters)
 
 -- and words, by the request that they make
 module _ (text : List ℕ) (file : File) (bytes : List ℕ) (referenceRoom alternativeRoom : ℕ) {asked : Asked} (is : asked ≡ requestOf text) where

@@ -95,12 +95,14 @@ laid-front [] table h = refl
 laid-front (x ∷ xs) [] h = absurd (omega arith)
 laid-front (x ∷ xs) (t ∷ table) h = ap {B = List ℕ} (λ rest. x ∷ rest) (laid-front xs table (le-of-suc-le-suc h))
 
-pub table-front : (text : List ℕ) (word : ℕ) (table : List ℕ) {exons : Exons} {size : ℕ} → length table ≡ 4104 → exons ≡ exonsAt text word .came
-    → exons ≡ Table size → partOf (laidAt 0 (exonsAt text word .bytes) table) 0 size ≡ exonsAt text word .bytes
-table-front text word table {exons} {size} long are e =
+-- so the part of a table that came is the bytes of the pairs that were laid in it
+pub table-front : (text : List ℕ) (word : ℕ) (table : List ℕ) {table′ part : List ℕ} {exons : Exons} {size : ℕ} → length table ≡ 4104
+    → exons ≡ exonsAt text word .came → table′ ≡ laidAt 0 (exonsAt text word .bytes) table → exons ≡ Table size → part ≡ partOf table′ 0 size
+    → part ≡ exonsAt text word .bytes
+table-front text word table {exons} {size} long are is-laid e is-part =
     let fit = exons-fit text word (sym are ∙ e) in
     let bytes = exonsAt text word .bytes in
-    rw (le-ltb size 0 (omega arith), length-laid 0 bytes table, le-ltb (length table) size (omega (arith, fit .most)), sub-zero, fit .counted)
+    rw (is-part, is-laid, le-ltb size 0 (omega arith), length-laid 0 bytes table, le-ltb (length table) size (omega (arith, fit .most)), sub-zero, fit .counted)
     (laid-front bytes table (omega (arith, fit .most, fit .counted)))
 
 -- a word that is given, or not

@@ -1,10 +1,10 @@
--- `asking::exons_at` meets its contract: by whether the word is given. Assumes nothing.
+-- `asking::handing::exons_at` meets its contract: by whether the word is given. Assumes nothing.
 use mathlib.Core.Path.{refl, sym}
 use Rattle.exon_lists.proofs.Laid.{laid-nothing}
 use Rattle.asking.proofs.Tables.{no-exons, some-exons}
 use borrow.Author.Needs.{needs}
-use Rattle.asking.proofs.exons_at.Statement.{statement}
-use Rattle.asking.proofs.exons_at.Tie as tie
+use Rattle.asking.proofs.handing.exons_at.Statement.{statement}
+use Rattle.asking.proofs.handing.exons_at.Tie as tie
 
 returns : tie.Need-returns
 returns c =
