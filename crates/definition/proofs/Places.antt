@@ -1,7 +1,6 @@
 -- Laws 2 to 4: the equivalent places are an interval, the alleles read off at each of them give the altered sequence back, and the place
 -- that the definition names is the furthest of them inside piece and target. Assumes nothing.
 use mathlib.Core.Path.{_≡_, sym, ap, ap₂, _∙_, subst}
-use mathlib.Core.Logic.{_↔_}
 use mathlib.Core.List.{List, _++_, append-assoc}
 use Prim.Native.Nat.{ℕ, _+_, _-_, _≤_, min, max}
 use native.Mathlib.Omega.{arith}
@@ -81,10 +80,6 @@ module _ (target after : List ℕ) (q : ℕ) where
     fits = omega (arith, lcp-le-left target after, lcp-le-right target after);
     same = interval-restored h k;
   }
-
-  pub equivalent↔interval : Equivalent target after (length target - length after) q
-      ↔ ((q ≤ lcp target after) × (min (length target) (length after) - q ≤ lcs target after))
-  equivalent↔interval = (equivalent→interval, λ h. interval→equivalent (h .0) (h .1))
 
 -- no place between two equivalent ones is missing
 pub between : (target after : List ℕ) (a q b : ℕ) → a ≤ q → q ≤ b
