@@ -1,5 +1,7 @@
 // Parts of an allele, by value: its first bases or its last alone, and its bases written out. Its bytes are read in crate `rotating_out`; here are the head
 // and the count.
+#![tactic(auto)]
+
 ghost use Rattle.std.specs.Prelude.{◌+◌, ◌-◌, ◌%◌, ◌≤◌, length, take, drop};
 ghost use Rattle.alleles.specs.Held.{held, Good, Holds};
 ghost use Rattle.allele_parts.specs.WrittenOut.{WrittenOut};
@@ -7,6 +9,7 @@ ghost use Rattle.allele_parts.specs.WrittenOut.{WrittenOut};
 use alleles::Allele;
 
 // The first so many bases alone.
+#[tactic(auto, using(crate::proofs::Parts::first_bases))]
 pub fn keep_front(mut allele: Allele, first: usize) -> Allele
     requires good { Good allele }
     requires first_le_count { first ≤ allele.count }
@@ -17,6 +20,7 @@ pub fn keep_front(mut allele: Allele, first: usize) -> Allele
 }
 
 // The last so many bases alone.
+#[tactic(auto, using(crate::proofs::Parts::last_bases))]
 pub fn keep_back(mut allele: Allele, last: usize) -> Allele
     requires good { Good allele }
     requires last_le_count { last ≤ allele.count }

@@ -6,6 +6,7 @@ use mathlib.Core.Path.{◌≡◌}
 use lib.ListN.{length, take, drop}
 use Rattle.alleles.specs.declared.Allele.{Allele}
 use Rattle.alleles.specs.Held.{held, Holds}
+use Rattle.definition.proofs.Prefixes.{lcp-le-left, lcp-le-right, lcs-le-left, lcs-le-right}
 use Rattle.rotating.proofs.Laws.{window-length}
 
 module _ (a kept : Allele) (n : ℕ) where
@@ -21,3 +22,8 @@ module _ (a kept : Allele) (n : ℕ) where
   pub but_last : Holds kept a.head (a.count - n) (take (a.count - n) (held a))
       → Holds kept a.head (a.count - n) (take (length (held a) - n) (held a))
   but_last h = rw (window-length a.bytes a.head a.count) h
+
+-- what a trim of the front rests on, and what one of the back does
+pub ruleset fronts = (lcp-le-left, lcp-le-right, window-length, but_first)
+
+pub ruleset backs = (lcs-le-left, lcs-le-right, window-length, but_last)

@@ -1,4 +1,6 @@
 // Two alleles without what they share at one end, by value. What they share is counted in crate `ends`; what is kept of each is a part of its buffer.
+#![tactic(auto)]
+
 ghost use Rattle.alleles.specs.Held.{Good};
 ghost use Rattle.allele_trims.specs.Trims.{TrimmedFront, TrimmedBack};
 
@@ -14,6 +16,7 @@ pub struct Trimmed {
 }
 
 // The bases that both alleles begin with come off.
+#[tactic(auto, using(crate::proofs::Trims::fronts))]
 pub fn trim_front(a: Allele, b: Allele) -> Trimmed
     requires good { Good a }
     requires good_2 { Good b }
@@ -32,6 +35,7 @@ pub fn trim_front(a: Allele, b: Allele) -> Trimmed
 }
 
 // The bases that both alleles end with come off.
+#[tactic(auto, using(crate::proofs::Trims::backs))]
 pub fn trim_back(a: Allele, b: Allele) -> Trimmed
     requires good { Good a }
     requires good_2 { Good b }

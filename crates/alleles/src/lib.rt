@@ -1,9 +1,11 @@
 // The rotating buffer that holds an allele while it is moved, by value: 2,048 bytes, head and count together; filled, and made longer at either end.
 // What is done to its bytes stands in crate `rotating`; here are the head and the count.
+#![tactic(auto)]
+
 ghost use Rattle.std.specs.Prelude.{[], ◌++◌, ◌+◌, ◌-◌, ◌%◌, ◌≤◌, length};
 ghost use Rattle.alleles.specs.Held.{held, Good, Holds};
 
-#[derive(Drop)]
+#[derive(Clone, Copy)]
 pub struct Allele {
     pub bytes: [u8; 2048],
     pub head: usize,
@@ -12,6 +14,7 @@ pub struct Allele {
 
 impl Allele {
     // An allele of no bases.
+    #[tactic(auto, unfolding(rotating::specs::Window::window))]
     pub fn empty() -> Self
         ensures { Holds result 0 0 [] }
     {

@@ -1,5 +1,7 @@
 // The thin forms of `alleles` and `allele_parts`: the buffer is lent and rotated in place. Each takes the allele out of the reference,
 // calls the by-value function of the same name and stores what comes back; it asks and ensures what that function does, of the buffer at entry and at exit.
+#![tactic(auto)]
+
 ghost use Rattle.std.specs.Prelude.{◌+◌, ◌-◌, ◌%◌, ◌≤◌, ◌++◌, length, take, drop};
 ghost use Rattle.alleles.specs.Held.{held, Good, Holds};
 

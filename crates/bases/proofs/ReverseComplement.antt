@@ -7,6 +7,8 @@ use mathlib.Core.Path.{◌≡◌, ◌∙◌}
 use mathlib.Core.List.{List, [], ◌∷◌, ◌++◌, map, reverse, reverse-cons}
 use lib.ListN.{length, get_or, length-map, length-reverse, get_or-append, get_or-map}
 use lib.Seq.{get_or_at}
+use Rattle.definition.proofs.Tests.{length-reverse-complement}
+use Rattle.definition.proofs.Laid.{laid_more, laid_done}
 use Rattle.definition.specs.Bases.{complement, reverse_complement}
 
 -- the last of a reversed list is the first, and those before it are the rest reversed
@@ -30,3 +32,5 @@ unfolding reverse_complement complement
 reverse-complement-at xs i h =
     get_d_reverse (map complement xs) i (rw length-map h)
     ∙ rw length-map (get_or-map complement xs (length xs - 1 - i) 0)
+
+pub ruleset laid = (laid_more, laid_done, length-reverse-complement, reverse-complement-at)

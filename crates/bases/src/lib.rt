@@ -1,10 +1,13 @@
 // Bases: which bytes are bases, the complement and the reverse complement. Each contract says by equations with the crate `definition` what comes back
 // and what is written. No function reads outside its slice.
+#![tactic(auto)]
+
 ghost use Rattle.std.specs.Prelude.{◌≡◌, ◌≤◌, length};
 ghost use Rattle.definition.specs.Bases.{is_base, all_bases, complement, reverse_complement};
 ghost use Rattle.definition.specs.Reply.{written};
 
 // A with T, C with G; any other byte is its own complement.
+#[tactic(auto, unfolding(definition::specs::Bases::complement))]
 pub fn complement(b: u8) -> u8
     ensures { result ≡ complement b }
 {
@@ -18,6 +21,7 @@ pub fn complement(b: u8) -> u8
 }
 
 // Whether the byte is A, C, G or T. All four tests are made, so that a loop over this has no branch.
+#[tactic(auto, unfolding(definition::specs::Bases::is_base))]
 fn is_base(b: u8) -> bool
     ensures { result ≡ is_base b }
 {
@@ -38,6 +42,7 @@ pub fn all_bases(s: &[u8]) -> bool
 }
 
 // The reverse complement of `part` at the front of `out`, whose other bytes stay as they are; and how many bytes that is.
+#[tactic(auto, using(crate::proofs::ReverseComplement::laid))]
 pub fn revcomp(part: &[u8], out: &mut [u8]) -> usize
     requires { length part.now ≤ length out.old }
     ensures count { result ≡ length part.now }

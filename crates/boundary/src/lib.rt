@@ -1,4 +1,6 @@
 // The piece of a range on a transcript, rows 12 to 15: the exon that holds it, cut at the CDS bounds.
+#![tactic(auto)]
+
 ghost use Rattle.std.specs.Prelude.{◌≡◌, true, ◌<◌};
 ghost use Rattle.definition.specs.Piece.{exons_in, exons_in_order, pieces_of, exon_piece, transcript_piece};
 
@@ -6,6 +8,7 @@ use definition::{Bound, ExonFound, Piece, PieceFound, Refusal, Zero};
 use search::exon_holding;
 
 // Rows 12 to 14: the exon of the first base and that of the last make a piece if they are one exon.
+#[tactic(auto, unfolding(definition::specs::Piece::exon_piece))]
 fn exon_piece(first: ExonFound, last: ExonFound) -> PieceFound
     ensures { result ≡ exon_piece first last }
 {
@@ -27,6 +30,7 @@ fn exon_piece(first: ExonFound, last: ExonFound) -> PieceFound
 }
 
 // Rows 12 to 15: the exon that holds the range, cut on the range's side of CDS start, then of CDS end.
+#[tactic(auto, unfolding(definition::specs::Piece::transcript_piece, definition::specs::Piece::pieces_of))]
 pub fn get_boundary(
     table: &[u8],
     cds_start: Bound,

@@ -6,6 +6,7 @@ use mathlib.Core.List.{List, [], ◌∷◌, ◌++◌, append_assoc, append-nil}
 use lib.ListN.{length, take, drop, get_or, set, length-append, drop_of_length-le}
 use lib.Seq.{drop-cons, set_at, take-length, drop-length}
 use Rattle.definition.specs.Reply.{written}
+use Rattle.rotating.proofs.Laws.{window-length}
 
 pub first-base : (target : List ℕ) → 1 ≤ length target → take 1 target ≡ get_or target 0 0 ∷ []
 first-base [] h = absurd (omega arith)
@@ -30,3 +31,6 @@ base-before w (x ∷ xs) part b h e =
     let less : suc (length xs) - 1 ≡ length xs = omega arith in
     let is : part ≡ w ++ drop (length w) xs = rw (less, take-length) at e in
     rw (less, drop-length, append-nil, is)
+
+-- what is written with each anchor
+pub ruleset anchors = (first-base, last-base, base-behind, base-before, window-length, length-append)

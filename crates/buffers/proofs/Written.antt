@@ -8,7 +8,8 @@ use lib.Seq.{slice, take_all}
 use Rattle.definition.specs.declared.Outcome.TheVariants.{Answer}
 use Rattle.definition.specs.Verdict.{answered}
 use Rattle.definition.specs.Reply.{written, outcome_of, reference_out, alternative_out, Met}
-use Rattle.definition.proofs.Parts.{slice-size}
+use Rattle.definition.proofs.Parts.{slice-size, lent-part}
+use Rattle.rotating.proofs.Laws.{window-length}
 use Rattle.classes.specs.declared.Called.{Called}
 use Rattle.classes.specs.Called.{anchored, called_in}
 use Rattle.buffers.specs.Reported.{reported}
@@ -35,3 +36,6 @@ met-called target bases n probes size ref ref' alt alt' fits many r s a =
     let long : length (slice n.reference_start.0 (n.reference_start.0 + n.reference_size) target) ≡ n.reference_size =
     slice-size n.reference_start.0 n.reference_size target fits in
     record { numbers = rw (long, whole, s); reference_buffer = r; alternative_buffer = rw whole a }
+
+-- the sizes of both alleles, and the part of the target that is lent
+pub ruleset met = (slice-size, lent-part, take_all, window-length)

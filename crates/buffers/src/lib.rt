@@ -1,4 +1,6 @@
 // The lent answer buffers: both alleles of an answer written out. The reference of every answer is a part of the target.
+#![tactic(auto)]
+
 ghost use Rattle.std.specs.Prelude.{◌≡◌, ◌+◌, ◌≤◌, length};
 ghost use Rattle.definition.specs.Verdict.{answered};
 ghost use Rattle.definition.specs.Reply.{written, Met};
@@ -12,6 +14,7 @@ use definition::{Answered, Outcome};
 use rotating_out::copy_out;
 
 // A part of the target is written out from byte 0; the bytes after it are unchanged.
+#[tactic(auto, using(definition::proofs::Laid::laid_more, definition::proofs::Laid::laid_done))]
 pub fn write_part(part: &[u8], out: &mut [u8])
     requires { length part.now ≤ length out.old }
     ensures { out.new ≡ written part.now out.old }
@@ -24,6 +27,7 @@ pub fn write_part(part: &[u8], out: &mut [u8])
 }
 
 // The alternative is written out with its anchor, and how many bytes that is comes back.
+#[tactic(auto, using(crate::proofs::Anchors::anchors))]
 fn write_anchored(
     target: &[u8],
     alternative: &[u8; 2048],
@@ -57,6 +61,7 @@ fn write_anchored(
 }
 
 // An answer: both alleles are written out, and its numbers come back.
+#[tactic(auto, using(crate::proofs::Written::met), unfolding(classes::specs::Called::called_in, definition::specs::Reply::outcome_of, definition::specs::Reply::reference_out, definition::specs::Reply::alternative_out))]
 pub fn build_result_construct(
     target: &[u8],
     alternative: &[u8; 2048],

@@ -18,6 +18,7 @@ use Rattle.definition.proofs.Tests.{and-true}
 use Rattle.definition.proofs.Meaning.{copy-fits}
 use Rattle.definition.proofs.Parts.{slice-size}
 use Rattle.copies.proofs.Copies.{copy_is}
+use Rattle.rotating.proofs.Laws.{window-length}
 use Rattle.classes.specs.Called.{called_in, unanchored, Calls, CallsAt}
 
 abbrev written : Class → ℕ → ℕ → List ℕ → List ℕ → Named
@@ -135,3 +136,6 @@ module _ (direction : Direction) (piece : Piece) (target bases : List ℕ) (q k 
       go false e =
           let some : 1 ≤ m = pos-of-ne m (eqb-false m 0 e) in
           rw e (calls-replacement p some t)
+
+-- what each class asks, and how long a window is
+pub ruleset names = (window-length, not-inverted, calls-unchanged, calls-insertion, calls-duplication, calls-replacement, calls-inversion, calls-deleted-or-replaced, copy-fits)

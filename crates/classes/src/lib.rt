@@ -1,5 +1,7 @@
 // What a change at its final place is called: its class and its 1-based range, before the end rules. At its place the reference allele is a part of the
 // target: only its size is handed in. The alternative is a window of a rotating buffer, lent as its bytes, its head and its count.
+#![tactic(auto)]
+
 ghost use Rattle.std.specs.Prelude.{◌≡◌, cond, ◌+◌, ◌<◌, ◌≤◌, eqb};
 ghost use Rattle.definition.specs.Limits.{longest_target, longest_allele};
 ghost use Rattle.definition.specs.declared.Class.TheVariants.{Deletion, Replacement};
@@ -66,6 +68,7 @@ fn deleted_or_replaced(place: Zero, reference_size: usize, count: usize) -> Call
 }
 
 // The alternative is longer: where the reference is empty a duplication or an insertion, else a replacement.
+#[tactic(auto, using(crate::proofs::Names::names))]
 fn build_result_len_gt(
     target: &[u8],
     direction: Direction,
@@ -98,6 +101,7 @@ fn build_result_len_gt(
 }
 
 // The reference is longer: a deletion or a replacement.
+#[tactic(auto, using(crate::proofs::Names::names))]
 fn build_result_len_less(place: Zero, reference_size: usize, count: usize) -> Called
     requires { (place.0 + reference_size ≤ longest_target) × (reference_size ≤ longest_allele) × (count < reference_size) }
     ensures { CallsAny place.0 reference_size count result }
@@ -107,6 +111,7 @@ fn build_result_len_less(place: Zero, reference_size: usize, count: usize) -> Ca
 
 // Both are as long: an inversion, no change, or a replacement. The Rust's deletion case is kept in the last call: it would need an empty
 // alternative, and then both are empty and nothing is changed.
+#[tactic(auto, using(crate::proofs::Names::names))]
 fn build_result_len_eq(
     target: &[u8],
     place: Zero,
@@ -137,6 +142,7 @@ fn build_result_len_eq(
 }
 
 // What the change is called, by which allele is longer.
+#[tactic(auto, using(crate::proofs::Names::names))]
 pub fn named(
     target: &[u8],
     direction: Direction,

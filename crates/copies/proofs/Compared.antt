@@ -8,6 +8,7 @@ use borrow.Author.Tests.{eq-eqb, ne_eqb}
 use lib.Dec.{eqb}
 use lib.ListN.{length, drop, get_or}
 use Rattle.definition.specs.Bases.{same_bases}
+use Rattle.rotating.proofs.Laws.{window-length, window-at}
 use Rattle.bases.proofs.SameBases.{same_next, same-all}
 
 module _ (xs ys : List ℕ) (i : ℕ) (rests : same_bases (drop i xs) (drop i ys) ≡ same_bases xs ys) where
@@ -24,3 +25,5 @@ module _ (xs ys : List ℕ) (i : ℕ) (rests : same_bases (drop i xs) (drop i ys
 
   pub compared-all : length xs ≤ i → length ys ≤ i → true ≡ same_bases xs ys
   compared-all h k = same-all xs ys i true rests h k
+
+pub ruleset compared = (compared-next, compared-differ, compared-all, window-length, window-at)

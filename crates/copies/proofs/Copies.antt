@@ -89,3 +89,5 @@ found_nowhere true start r e f =
     let z : ◌≡◌ {A = ℕ} 0 1 = cc in
     absurd (omega arith)
 found_nowhere false start r e f = refl
+
+pub ruleset beside = (before-outside, before-inside, after-outside, after-inside, after-past)

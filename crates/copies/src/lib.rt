@@ -1,5 +1,7 @@
 // The copy beside an insertion: where it would lie in the piece, and whether it is there. The alternative is a window of a rotating buffer, lent as
 // its bytes, its head and its count.
+#![tactic(auto)]
+
 ghost use Rattle.std.specs.Prelude.{◌≡◌, ◌≤◌, length};
 ghost use Rattle.definition.specs.Bases.{same_bases};
 ghost use Rattle.definition.specs.Limits.{longest_target};
@@ -18,6 +20,7 @@ pub enum Beside {
 }
 
 // Whether a part of the target holds the same bases as the alternative.
+#[tactic(auto, using(crate::proofs::Compared::compared))]
 fn is_copy(part: &[u8], alternative: &[u8; 2048], head: usize) -> bool
     requires { Placed head (length part.now) }
     ensures { result ≡ same_bases part.now (window alternative.now head (length part.now)) }
@@ -33,6 +36,7 @@ fn is_copy(part: &[u8], alternative: &[u8; 2048], head: usize) -> bool
 }
 
 // Rightward, the bases before the gap are the copy, and the piece begins at or before them.
+#[tactic(auto, using(crate::proofs::Copies::beside), unfolding(definition::specs::Answer::copy_start))]
 fn copy_before(
     target: &[u8],
     piece: Piece,
@@ -62,6 +66,7 @@ fn copy_before(
 }
 
 // Leftward, the bases after the gap are the copy, and the piece and the target end at or after them.
+#[tactic(auto, using(crate::proofs::Copies::beside), unfolding(definition::specs::Answer::copy_start))]
 fn copy_after(
     target: &[u8],
     piece: Piece,

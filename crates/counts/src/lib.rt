@@ -1,4 +1,6 @@
 // Counts: the smaller of two, for every crate that goes no further than either of them lets it, and the two of a window.
+#![tactic(auto)]
+
 ghost use Rattle.std.specs.Prelude.{◌≡◌, min};
 
 // One window of the move, in either direction: its size, and how many bases the change moved in it.

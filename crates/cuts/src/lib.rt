@@ -1,4 +1,6 @@
 // A piece cut at a CDS bound, and row 15.
+#![tactic(auto)]
+
 ghost use Rattle.std.specs.Prelude.{◌≡◌, max};
 ghost use Rattle.definition.specs.declared.Bound.TheVariants.{At};
 ghost use Rattle.definition.specs.declared.PieceFound.TheVariants.{InPiece};
@@ -13,6 +15,7 @@ fn greater(a: usize, b: usize) -> usize
 }
 
 // A piece, cut at gap c to the side on which the range lies; row 15 where the range has bases on both.
+#[tactic(auto, unfolding(definition::specs::Piece::cut_at))]
 fn cut_piece(c: usize, start: Zero, end: Zero, piece: Piece) -> PieceFound
     ensures { result ≡ cut_at (At c) start.0 end.0 (InPiece piece) }
 {
@@ -30,6 +33,7 @@ fn cut_piece(c: usize, start: Zero, end: Zero, piece: Piece) -> PieceFound
 }
 
 // What was found, cut at a CDS bound. A bound that is no number cuts nothing.
+#[tactic(auto, unfolding(definition::specs::Piece::cut_at))]
 pub fn cut_at(bound: Bound, start: Zero, end: Zero, found: PieceFound) -> PieceFound
     ensures { result ≡ cut_at bound start.0 end.0 found }
 {

@@ -1,6 +1,6 @@
 -- The walk of one base at a time ends at the furthest place and compares as many pairs as the definition's probes say, in both directions:
 -- what a single step shows is stated for each direction, the walk once over both. Assumes nothing.
-use mathlib.Core.Path.{◌≡◌, refl, ap₂, ap, ◌∙◌}
+use mathlib.Core.Path.{◌≡◌, refl, sym, subst, ap₂, ap, ◌∙◌}
 use mathlib.Core.Logic.{◌⊎◌, inl, inr}
 use mathlib.Core.Bool.{◌||◌, Bool, true, false, cond}
 use mathlib.Core.List.{List}
@@ -193,6 +193,16 @@ pub probes-walked : (direction : Direction) (piece : Piece) (target : List ℕ) 
 unfolding place_of probes_of
 probes-walked direction piece target c order left right u =
     let p : Pure direction piece target c order left right = pure direction piece target c order left right u in
-    rw (is-pure (trimmed direction target c) u, p.reference, p.alternative)
-    (walked piece target (altered target c) direction (suc (length target)) (trimmed direction target c).start p.here p.inside
-    (enough direction piece target (length target - length (altered target c)) (trimmed direction target c).start p.inside.in_target))
+    let after : List ℕ = altered target c in
+    let start : ℕ = (trimmed direction target c).start in
+    let place : ℕ → ℕ = λ k. furthest direction piece target after k in
+    let P : ℕ → ℕ → Type 0 = λ k m. walk direction piece target after k m (suc (length target)) start
+    ≡ record {
+      place = place k;
+      compared = (place k - start) + (start - place k) + cond (stopped_by_base direction piece target k (place k)) 1 0;
+    } in
+    rw (is-pure (trimmed direction target c) u)
+    (subst (λ k. P k (trimmed direction target c).alternative_size) (sym p.reference)
+    (subst (P (length target - length after)) (sym p.alternative)
+    (walked piece target after direction (suc (length target)) start p.here p.inside
+    (enough direction piece target (length target - length after) start p.inside.in_target))))

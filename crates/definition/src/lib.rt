@@ -1,5 +1,6 @@
 // The types that every crate shares, so that the definition in specs/ and the code speak of the same ones, and the limits as the code reads them.
 // There is no code here: what the types mean stands in specs/, the laws in proofs/.
+#![tactic(auto)]
 
 // The numbers of specs/Limits.antt. That these are the same follows where they are read: in rows 2, 3, 7 and 9, and in the whole piece.
 pub const LONGEST_WINDOW: u32 = 1024;
@@ -13,15 +14,15 @@ pub const ANSWER_ROOM: usize = 1025;
 pub const OPEN_END: usize = 2147483647;
 
 // A 0-based position: the bases before it are counted, so it is also the gap before a base.
-#[derive(Drop)]
+#[derive(Clone, Copy)]
 pub struct Zero(pub usize);
 
 // A 1-based position, as an answer gives it.
-#[derive(Drop)]
+#[derive(Clone, Copy)]
 pub struct One(pub usize);
 
 // What a target is: open (g., m.), a transcript, or a transcript whose changes may cross its boundaries.
-#[derive(Drop)]
+#[derive(Clone, Copy)]
 pub enum Kind {
     Open,
     Transcript,
@@ -29,7 +30,7 @@ pub enum Kind {
 }
 
 // What a request asks for.
-#[derive(Drop)]
+#[derive(Clone, Copy)]
 pub enum Edit {
     Insert,
     Duplicate,
@@ -39,21 +40,21 @@ pub enum Edit {
 }
 
 // Where a change is moved: rightward is the Rust's `FiveToThree`.
-#[derive(Drop)]
+#[derive(Clone, Copy)]
 pub enum Direction {
     Rightward,
     Leftward,
 }
 
 // An end of a range as it reaches us: a position, or a number below 0.
-#[derive(Drop)]
+#[derive(Clone, Copy)]
 pub enum Coordinate {
     Natural(Zero),
     Below,
 }
 
 // A CDS bound as it reaches us: absent, a number, or a negative number that breaks a table rule.
-#[derive(Drop)]
+#[derive(Clone, Copy)]
 pub enum Bound {
     Absent,
     At(usize),
@@ -61,7 +62,7 @@ pub enum Bound {
 }
 
 // The rows of the table of refusals, by name. Number 11 is reserved and has none.
-#[derive(Drop)]
+#[derive(Clone, Copy)]
 pub enum Refusal {
     BadCode,
     BadWindow,
@@ -81,35 +82,35 @@ pub enum Refusal {
 }
 
 // An exon of a transcript: the bases from start up to end.
-#[derive(Drop)]
+#[derive(Clone, Copy)]
 pub struct Exon {
     pub start: Zero,
     pub end: Zero,
 }
 
 // The exon that holds a base, if there is one.
-#[derive(Drop)]
+#[derive(Clone, Copy)]
 pub enum ExonFound {
     Holding(Exon),
     NoExon,
 }
 
 // Where a change may move: from gap left up to gap right.
-#[derive(Drop)]
+#[derive(Clone, Copy)]
 pub struct Piece {
     pub left: Zero,
     pub right: Zero,
 }
 
 // The piece of a range, or the row that refuses it.
-#[derive(Drop)]
+#[derive(Clone, Copy)]
 pub enum PieceFound {
     InPiece(Piece),
     NoPiece(Refusal),
 }
 
 // What an answer is called.
-#[derive(Drop)]
+#[derive(Clone, Copy)]
 pub enum Class {
     Insertion,
     Duplication,
@@ -121,7 +122,7 @@ pub enum Class {
 
 // The numbers of an answer: what it is called, its range with both ends in it, the pairs of bases compared in the move, and how many bases
 // each allele has. The alleles themselves stand in the lent buffers.
-#[derive(Drop)]
+#[derive(Clone, Copy)]
 pub struct Answered {
     pub class: Class,
     pub start: One,
@@ -132,7 +133,7 @@ pub struct Answered {
 }
 
 // What comes back of a request.
-#[derive(Drop)]
+#[derive(Clone, Copy)]
 pub enum Outcome {
     Answer(Answered),
     Refuse(Refusal),

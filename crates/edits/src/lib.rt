@@ -1,4 +1,6 @@
 // What an edit asks of its range and of the alternative: whether row 6 is given, and whether the alternative is read.
+#![tactic(auto)]
+
 ghost use Rattle.std.specs.Prelude.{◌≡◌, ◌≤◌};
 ghost use Rattle.definition.specs.Verdict.{misfits};
 ghost use Rattle.edits.specs.Reads.{reads};

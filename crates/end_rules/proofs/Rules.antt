@@ -23,15 +23,15 @@ use Rattle.classes.specs.declared.Called.{Called}
 use Rattle.classes.specs.Called.{called_in, Calls}
 use Rattle.end_rules.specs.Rules.{FirstClass}
 
-pub class-unchanged : (first bases : List ℕ) → length bases ≡ 0 → Unchanged ≡ replaced_or_unchanged first (bases ++ first)
+pub class_unchanged : (first bases : List ℕ) → length bases ≡ 0 → Unchanged ≡ replaced_or_unchanged first (bases ++ first)
 unfolding replaced_or_unchanged
-class-unchanged first [] e = rw (same_refl first)
-class-unchanged first (x ∷ bases) e = absurd (omega arith)
+class_unchanged first [] e = rw (same_refl first)
+class_unchanged first (x ∷ bases) e = absurd (omega arith)
 
-pub class-replaced : (first bases : List ℕ) → (length bases ≡ 0 → ⊥) → Replacement ≡ replaced_or_unchanged first (bases ++ first)
+pub class_replaced : (first bases : List ℕ) → (length bases ≡ 0 → ⊥) → Replacement ≡ replaced_or_unchanged first (bases ++ first)
 unfolding replaced_or_unchanged
-class-replaced first [] h = absurd (h refl)
-class-replaced first (x ∷ bases) h =
+class_replaced first [] h = absurd (h refl)
+class_replaced first (x ∷ bases) h =
     let differ : same_bases first (x ∷ bases ++ first) ≡ false =
     not_as_long first (x ∷ bases ++ first) (λ e. omega (arith, simp length-append at e)) in
     rw differ
@@ -113,3 +113,6 @@ module _ (target bases : List ℕ) (n : Called) (what : Named) (big : 1 ≤ leng
           alternative = h.alternative;
           alone = λ end. absurd (⊎_elim (λ f. omega arith) (λ f. omega arith) end);
         }
+
+-- when each rule is due
+pub ruleset due = (first-not-due, first-due, last-open, last-not-due, last-due)

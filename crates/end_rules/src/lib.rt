@@ -1,4 +1,6 @@
 // The two end rules, on what a change is called: a result before the first base, and one past the last.
+#![tactic(auto)]
+
 ghost use Rattle.std.specs.Prelude.{◌≡◌, ◌≤◌, length};
 ghost use Rattle.definition.specs.Limits.{longest_target};
 ghost use Rattle.definition.specs.Answer.{first_base_rule, has_last_base_rule, last_base_rule};
@@ -9,6 +11,7 @@ use definition::{Class, Kind, Zero};
 use positions::{before_gap, one_based};
 
 // Equal alleles are unchanged: an alternative and the first base behind it are the first base where the alternative is empty.
+#[tactic(auto, using(crate::proofs::Rules::class_unchanged, crate::proofs::Rules::class_replaced))]
 fn replaced_or_unchanged(alternative_size: usize) -> Class
     ensures { FirstClass alternative_size result }
 {
@@ -20,6 +23,7 @@ fn replaced_or_unchanged(alternative_size: usize) -> Class
 }
 
 // A result start of 0 becomes the first base, with that base behind the alternative.
+#[tactic(auto, using(crate::proofs::Rules::due))]
 pub fn first_base_rule(target: &[u8], called: Called) -> Called
     requires { 1 ≤ length target.now }
     ensures { Applies (first_base_rule target.now) target.now called result }
@@ -41,6 +45,7 @@ pub fn first_base_rule(target: &[u8], called: Called) -> Called
 }
 
 // Open targets have no rule for the last base.
+#[tactic(auto, unfolding(definition::specs::Answer::has_last_base_rule))]
 fn has_last_base_rule(kind: Kind) -> bool
     ensures { result ≡ has_last_base_rule kind }
 {
@@ -52,6 +57,7 @@ fn has_last_base_rule(kind: Kind) -> bool
 }
 
 // A result end past the last base becomes the last base, with that base before the alternative.
+#[tactic(auto, using(crate::proofs::Rules::due))]
 pub fn last_base_rule(target: &[u8], kind: Kind, called: Called) -> Called
     requires { (1 ≤ length target.now) × (length target.now ≤ longest_target) }
     ensures { Applies (last_base_rule kind target.now) target.now called result }

@@ -76,3 +76,41 @@ module _ (end : End) (xs ys : List ℕ) (h m k l : ℕ) where
       let s =
       end.step (window xs h m) (window ys k l) n (omega (arith, window-length xs h m)) (omega (arith, window-length ys k l)) within
       in (λ e. s.0 (x ∙ e ∙ sym y), λ t. sym x ∙ s.1 t ∙ y)
+
+  -- where a pair of bases differs, no more is shared; where it is equal, one more is
+  stops : (n : ℕ) → n < min m l → n ≤ end.shared (window xs h m) (window ys k l)
+      → (get_or xs ((h + end.place m n) % 2048) 0 ≡ get_or ys ((k + end.place l n) % 2048) 0 → ⊥) → n ≡ end.shared (window xs h m) (window ys k l)
+  stops n below within differ = no_more within (λ s. differ ((window-step n below within).1 s))
+
+  goes : (n : ℕ) → n < min m l → n ≤ end.shared (window xs h m) (window ys k l)
+      → get_or xs ((h + end.place m n) % 2048) 0 ≡ get_or ys ((k + end.place l n) % 2048) 0 → n + 1 ≤ end.shared (window xs h m) (window ys k l)
+  goes n below within equal = omega (arith, (window-step n below within).0 equal)
+
+module _ (xs ys : List ℕ) (h m k l : ℕ) where
+  pub front-fits : lcp (window xs h m) (window ys k l) ≤ min m l
+  front-fits = fits front xs ys h m k l
+
+  pub back-fits : lcs (window xs h m) (window ys k l) ≤ min m l
+  back-fits = fits back xs ys h m k l
+
+  module _ (n : ℕ) (below : n < min m l) where
+    pub front-stops : n ≤ lcp (window xs h m) (window ys k l) → (get_or xs ((h + n) % 2048) 0 ≡ get_or ys ((k + n) % 2048) 0 → ⊥)
+        → n ≡ lcp (window xs h m) (window ys k l)
+    front-stops = stops front xs ys h m k l n below
+
+    pub front-goes : n ≤ lcp (window xs h m) (window ys k l) → get_or xs ((h + n) % 2048) 0 ≡ get_or ys ((k + n) % 2048) 0
+        → n + 1 ≤ lcp (window xs h m) (window ys k l)
+    front-goes = goes front xs ys h m k l n below
+
+    pub back-stops : n ≤ lcs (window xs h m) (window ys k l)
+        → (get_or xs ((h + (m - 1 - n)) % 2048) 0 ≡ get_or ys ((k + (l - 1 - n)) % 2048) 0 → ⊥) → n ≡ lcs (window xs h m) (window ys k l)
+    back-stops = stops back xs ys h m k l n below
+
+    pub back-goes : n ≤ lcs (window xs h m) (window ys k l)
+        → get_or xs ((h + (m - 1 - n)) % 2048) 0 ≡ get_or ys ((k + (l - 1 - n)) % 2048) 0 → n + 1 ≤ lcs (window xs h m) (window ys k l)
+    back-goes = goes back xs ys h m k l n below
+
+-- what a count at each end rests on, as sets that an attribute can name
+pub ruleset front_counted = (front-fits, front-stops, front-goes)
+
+pub ruleset back_counted = (back-fits, back-stops, back-goes)

@@ -1,9 +1,12 @@
 // The ends of two windows of rotating arrays: how many bytes they begin with in common, and how many they end with. Both arrays are lent.
+#![tactic(auto)]
+
 ghost use Rattle.std.specs.Prelude.{◌≡◌};
 ghost use Rattle.definition.specs.Prefix.{lcp, lcs};
 ghost use Rattle.rotating.specs.Window.{window, Placed};
 
 // How many bytes two windows begin with in common.
+#[tactic(auto, using(crate::proofs::Ends::front_counted))]
 pub fn common_front(
     a: &[u8; 2048],
     a_head: usize,
@@ -27,6 +30,7 @@ pub fn common_front(
 }
 
 // How many bytes two windows end with in common.
+#[tactic(auto, using(crate::proofs::Ends::back_counted))]
 pub fn common_back(
     a: &[u8; 2048],
     a_head: usize,

@@ -62,9 +62,9 @@ number-after n at t =
     simp (get_or-drop, e, f, g)
 
 -- the pair at place i, and the pairs after it
-pub pair-at : (t : List ℕ) (i : ℕ) → 8 * i + 8 ≤ length t
+pub pair_at : (t : List ℕ) (i : ℕ) → 8 * i + 8 ≤ length t
     → drop i (exons_in t) ≡ exon_from (number_at t (8 * i)) (number_at t (8 * i + 4)) ∷ drop (i + 1) (exons_in t)
-pair-at t i h =
+pair_at t i h =
     let e : 8 * i + 8 ≡ 8 * (i + 1) = omega arith in
     let f : drop 8 (drop (8 * i) t) ≡ drop (8 * (i + 1)) t = drop-drop 8 (8 * i) t ∙ ap (λ (n : ℕ). drop n t) e in
     let z : 8 * i + 0 ≡ 8 * i = omega arith in

@@ -12,6 +12,9 @@ use Rattle.definition.specs.Answer.{is_inversion}
 use Rattle.rotating.specs.Window.{window}
 use Rattle.rotating.proofs.Laws.{window-length, window-at}
 use Rattle.definition.proofs.Tests.{and-false, length-reverse-complement}
+use Rattle.copies.proofs.Compared.{compared-next, compared-differ, compared-all}
+use Rattle.definition.proofs.Parts.{lent-part}
+use lib.Seq.{length-slice}
 use Rattle.bases.proofs.ReverseComplement.{reverse-complement-at}
 
 module _ (bytes : List ℕ) (head n : ℕ) where
@@ -32,3 +35,7 @@ inverted-one ref alt h = rw (le-ltb 1 (length ref) h, and-false (eqb (length ref
 pub inverted-more : (ref alt : List ℕ) → length ref ≡ length alt → 1 < length ref → is_inversion ref alt ≡ same_bases ref (reverse_complement alt)
 unfolding is_inversion
 inverted-more ref alt e h = rw (eq-eqb (length ref) (length alt) e, lt-ltb 1 (length ref) h)
+
+pub ruleset inverted = (compared-next, compared-differ, compared-all, inverted-length, inverted-at)
+
+pub ruleset inversion = (inverted-one, inverted-more, length-slice, lent-part, window-length)

@@ -1,4 +1,6 @@
 // Whether a reference is the reverse complement of the alternative, which is a window of a rotating buffer, lent as its bytes, its head and its count.
+#![tactic(auto)]
+
 ghost use Rattle.std.specs.Prelude.{◌≡◌, ◌+◌, ◌≤◌, length};
 ghost use Rattle.std.proofs.Math.Seq.{slice};
 ghost use Rattle.definition.specs.Bases.{reverse_complement, same_bases};
@@ -9,6 +11,7 @@ use bases::complement;
 use definition::Zero;
 
 // Whether a part of the target is the reverse complement of the alternative, which is as long.
+#[tactic(auto, using(crate::proofs::Inverted::inverted))]
 fn is_inverted(part: &[u8], alternative: &[u8; 2048], head: usize) -> bool
     requires { Placed head (length part.now) }
     ensures { result ≡ same_bases part.now
@@ -26,6 +29,7 @@ fn is_inverted(part: &[u8], alternative: &[u8; 2048], head: usize) -> bool
 }
 
 // Whether the reference, which is as long as the alternative, is its reverse complement. One base is no inversion.
+#[tactic(auto, using(crate::proofs::Inverted::inversion))]
 pub fn is_inversion(
     target: &[u8],
     place: Zero,

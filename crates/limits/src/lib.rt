@@ -1,4 +1,6 @@
 // Rows 1, 2, 3 and 9: the numbers of a request that must lie inside a limit, each in a function that says whether its row is given.
+#![tactic(auto)]
+
 ghost use Rattle.std.specs.Prelude.{◌≡◌};
 ghost use Rattle.definition.specs.Verdict.{unlisted, window_outside, size_outside, cramped};
 

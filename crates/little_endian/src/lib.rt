@@ -1,4 +1,6 @@
 // Numbers as bytes hold them, 32 bits, the least byte first: those of an exon table and those of stored records.
+#![tactic(auto)]
+
 ghost use Rattle.std.specs.Prelude.{◌≡◌, ◌+◌, ◌<◌, ◌≤◌, length};
 ghost use Rattle.little_endian.specs.Numbers.{number_at};
 
@@ -9,6 +11,7 @@ fn wide(byte: u8) -> u32
 }
 
 // The number that four bytes spell.
+#[tactic(auto, unfolding(crate::specs::Numbers::number_at, definition::specs::Piece::little))]
 pub fn number_at(bytes: &[u8], at: usize) -> u32
     requires { at + 4 ≤ length bytes.now }
     ensures { result ≡ number_at bytes.now at }

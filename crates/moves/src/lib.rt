@@ -1,5 +1,7 @@
 // A trimmed change: with both alleles left it stays where it is, with one used up it moves to the furthest place inside piece and target, up to an edge
 // that is handed to the windows in a row.
+#![tactic(auto)]
+
 ghost use Rattle.std.specs.Prelude.{◌≡◌};
 ghost use Rattle.std.proofs.Math.Seq.{slice};
 ghost use Rattle.definition.specs.Change.{trimmed_front, trimmed_end};

@@ -1,7 +1,7 @@
 -- Where rows 1 to 5 leave a request: refused by one, or past it. Assumes nothing.
 use mathlib.Core.Path.{◌≡◌, refl, sym, ap, ◌∙◌}
 use mathlib.Core.Bool.{Bool, true, false, cond}
-use Prim.Native.Nat.{ℕ, ◌-◌, ◌≤◌, ◌<◌}
+use Prim.Native.Nat.{ℕ, ◌≤◌, ◌<◌}
 use native.Mathlib.Omega.{arith}
 use borrow.Author.Tests.{leb-false, ltb-false, eqb-false}
 use lib.Dec.{eqb, leb, ltb}
@@ -17,7 +17,7 @@ use Rattle.definition.specs.declared.Zero.{Zero}
 use Rattle.ranges.specs.declared.Range.{Range}
 use Rattle.ranges.specs.declared.Range.TheVariants.{Within, Outside}
 use Rattle.ranges.specs.Range.{ordered_range, range_of, range_read}
-use Rattle.ranges.proofs.Read.{range-read}
+use Rattle.ranges.proofs.Read.{range_read_off}
 use Rattle.definition.specs.Request.{Request, coordinate_of, kind_of, edit_of, direction_of, bound_of, start_of, end_of, change_of}
 use Rattle.definition.specs.Limits.{longest_window, longest_target}
 use Rattle.definition.specs.Verdict.{verdict, refused, rows, request_rows, target_rows, change_rows, bad_code, bad_window, bad_target}
@@ -129,7 +129,7 @@ module _ (r : Request) (found : Range) (e : found ≡ range_read r.range_start r
   pub read-ordered : (x y : Zero) → found ≡ Within x y → (x.0 < y.0) × (y.0 ≤ length r.target)
   read-ordered x y w =
       range-facts (coordinate_of r.range_start) (coordinate_of r.range_end) (length r.target) x y
-      (range-read r.range_start r.range_end (length r.target) ∙ sym e ∙ w)
+      (range_read_off r.range_start r.range_end (length r.target) ∙ sym e ∙ w)
 
 -- past row 5, in the words of what was read of the request
 pub past-reading : (r : Request) (kind : Kind) (a b : Bound) (start end : ℕ) (edit : Edit) (direction : Direction)

@@ -5,6 +5,7 @@ ghost use Rattle.definition.specs.Request.{kind_of, edit_of, direction_of, bound
 use definition::{Bound, Direction, Edit, Kind};
 
 // The kind of a target. A code past the last is refused by row 1 before it is read.
+#[tactic(auto, unfolding(definition::specs::Request::kind_of))]
 pub(crate) fn kind_of(code: u32) -> Kind
     ensures { result ≡ kind_of code }
 {
@@ -16,6 +17,7 @@ pub(crate) fn kind_of(code: u32) -> Kind
 }
 
 // The edit that is asked for. A code past the last is refused by row 1 before it is read.
+#[tactic(auto, unfolding(definition::specs::Request::edit_of))]
 pub(crate) fn edit_of(code: u32) -> Edit
     ensures { result ≡ edit_of code }
 {
@@ -29,6 +31,7 @@ pub(crate) fn edit_of(code: u32) -> Edit
 }
 
 // The direction of the move. A code past the last is refused by row 1 before it is read.
+#[tactic(auto, unfolding(definition::specs::Request::direction_of))]
 pub(crate) fn direction_of(code: u32) -> Direction
     ensures { result ≡ direction_of code }
 {
@@ -39,6 +42,7 @@ pub(crate) fn direction_of(code: u32) -> Direction
 }
 
 // A CDS bound, signed as the caller gives it: -1 is absent, another negative number breaks a table rule.
+#[tactic(auto, unfolding(definition::specs::Request::bound_of))]
 pub(crate) fn bound_of(number: i64) -> Bound
     ensures { result ≡ bound_of number }
 {

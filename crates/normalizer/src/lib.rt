@@ -1,4 +1,6 @@
 // `normalize`: rows 1 to 5 in order, then the verdict on what was read. Nothing is left to the caller to check.
+#![tactic(auto)]
+
 mod codes;
 mod verdicts;
 
@@ -11,6 +13,7 @@ use definition::{Outcome, Refusal};
 use ranges::Range;
 
 // Any request gets an answer or one of the refusals, exactly when its row says; a refusal touches no buffer.
+#[tactic(auto, unfolding(definition::specs::Verdict::verdict, definition::specs::Verdict::rows, definition::specs::Verdict::request_rows, definition::specs::Verdict::target_rows, definition::specs::Verdict::change_rows, definition::specs::Verdict::refused_or, definition::specs::Verdict::bad_code, definition::specs::Verdict::bad_window, definition::specs::Verdict::bad_target, definition::specs::Verdict::bad_base, definition::specs::Reply::outcome_of, definition::specs::Reply::reference_out, definition::specs::Reply::alternative_out, definition::specs::Reply::written))]
 pub fn normalize(
     target: &[u8],
     kind: u32,

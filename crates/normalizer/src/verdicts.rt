@@ -65,6 +65,7 @@ fn answer_passed(
 }
 
 // Rows 6 to 10, of a range that passes row 5; then the answer.
+#[tactic(auto, unfolding(crate::specs::Passed::range_verdict, definition::specs::Verdict::refused_or, definition::specs::Reply::outcome_of, definition::specs::Reply::reference_out, definition::specs::Reply::alternative_out, definition::specs::Reply::written))]
 pub(crate) fn normalize_range(
     target: &[u8],
     kind: Kind,

@@ -1,4 +1,6 @@
 // 01's numbers of the refusals and of the classes.
+#![tactic(auto)]
+
 ghost use Rattle.std.specs.Prelude.{◌≡◌};
 ghost use Rattle.definition.specs.Answer.{class_number};
 ghost use Rattle.definition.specs.Reply.{refusal_number};

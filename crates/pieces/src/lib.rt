@@ -1,4 +1,6 @@
 // The piece of a range on any target: the one piece of open targets and crossing transcripts, or what rows 12 to 15 give on a transcript.
+#![tactic(auto)]
+
 ghost use Rattle.std.specs.Prelude.{◌≡◌, ◌<◌};
 ghost use Rattle.definition.specs.Piece.{whole_piece, piece_for};
 ghost use Rattle.pieces.specs.ReadInOrder.{ReadInOrder};
@@ -6,6 +8,7 @@ ghost use Rattle.pieces.specs.ReadInOrder.{ReadInOrder};
 use boundary::get_boundary;
 use definition::{Bound, Kind, OPEN_END, Piece, PieceFound, Zero};
 
+#[tactic(auto, unfolding(definition::specs::Piece::whole_piece))]
 fn whole_piece() -> Piece
     ensures { result ≡ whole_piece }
 {
@@ -16,6 +19,7 @@ fn whole_piece() -> Piece
 }
 
 // The piece of a range: open targets and crossing transcripts have one piece, and their tables are not read.
+#[tactic(auto, unfolding(definition::specs::Piece::piece_for))]
 pub fn piece_for(
     kind: Kind,
     table: &[u8],

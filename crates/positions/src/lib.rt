@@ -1,4 +1,6 @@
 // The two kinds of position, converted.
+#![tactic(auto)]
+
 ghost use Rattle.std.specs.Prelude.{◌≡◌, ◌+◌, ◌≤◌};
 
 use definition::{One, Zero};

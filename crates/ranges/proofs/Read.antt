@@ -1,7 +1,7 @@
 -- Row 5 is read off the two ends of the range. Assumes nothing.
 use mathlib.Core.Path.{◌≡◌, refl}
 use mathlib.Core.Bool.{Bool, true, false}
-use Prim.Native.Nat.{ℕ, ◌-◌, zero-le}
+use Prim.Native.Nat.{ℕ, zero-le}
 use borrow.Author.Tests.{le-ltb}
 use lib.Dec.{leb, ltb}
 use lib.IntN.{ℤ, pos, negsuc}
@@ -11,13 +11,13 @@ use Rattle.ranges.specs.Range.{range_of, range_read}
 not-below : (a : ℕ) → ltb a 0 ≡ false
 not-below a = le-ltb a 0 zero-le
 
-pub range-read : (start end : ℤ) (size : ℕ) → range_of (coordinate_of start) (coordinate_of end) size ≡ range_read start end size
+pub range_read_off : (start end : ℤ) (size : ℕ) → range_of (coordinate_of start) (coordinate_of end) size ≡ range_read start end size
 unfolding coordinate_of range_read
-range-read (pos a) (pos b) size = go (leb b a) refl
+range_read_off (pos a) (pos b) size = go (leb b a) refl
   where
     go : (c : Bool) → leb b a ≡ c → range_of (coordinate_of (pos a)) (coordinate_of (pos b)) size ≡ range_read (pos a) (pos b) size
     go true e = rw (not-below a, e)
     go false e = rw (not-below a, e)
-range-read (pos a) (negsuc b) size = rw (not-below a)
-range-read (negsuc a) (pos b) size = refl
-range-read (negsuc a) (negsuc b) size = refl
+range_read_off (pos a) (negsuc b) size = rw (not-below a)
+range_read_off (negsuc a) (pos b) size = refl
+range_read_off (negsuc a) (negsuc b) size = refl

@@ -16,14 +16,14 @@ not-below (negsuc n) e =
     let z : ◌≡◌ {A = ℕ} 0 1 = cc in
     absurd (omega arith)
 
-pub coordinate-below : (z : ℤ) → lt_z z (pos 0) ≡ true → Below ≡ coordinate_of z
+pub coordinate_below : (z : ℤ) → lt_z z (pos 0) ≡ true → Below ≡ coordinate_of z
 unfolding coordinate_of
-coordinate-below (pos n) e = absurd (omega (arith, ltb-true n 0 e))
-coordinate-below (negsuc n) e = refl
+coordinate_below (pos n) e = absurd (omega (arith, ltb-true n 0 e))
+coordinate_below (negsuc n) e = refl
 
-pub coordinate-natural : (z : ℤ) → lt_z z (pos 0) ≡ false → Natural (record { 0 = nat_abs z }) ≡ coordinate_of z
+pub coordinate_natural : (z : ℤ) → lt_z z (pos 0) ≡ false → Natural (record { 0 = nat_abs z }) ≡ coordinate_of z
 unfolding coordinate_of
-coordinate-natural (pos n) e = refl
-coordinate-natural (negsuc n) e =
+coordinate_natural (pos n) e = refl
+coordinate_natural (negsuc n) e =
     let z : ◌≡◌ {A = ℕ} 0 1 = cc in
     absurd (omega arith)

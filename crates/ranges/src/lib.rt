@@ -1,4 +1,6 @@
 // Row 5: the two ends of the range, read and held to the target.
+#![tactic(auto)]
+
 ghost use Rattle.std.specs.Prelude.{◌≡◌};
 ghost use Rattle.definition.specs.Request.{coordinate_of};
 ghost use Rattle.ranges.specs.Range.{ordered_range, range_of, range_read};
@@ -13,6 +15,7 @@ pub enum Range {
 }
 
 // An end of the range, signed as the caller gives it: no other function meets a number below 0.
+#[tactic(auto, using(crate::proofs::Signed::coordinate_below, crate::proofs::Signed::coordinate_natural))]
 fn coordinate_of(position: i32) -> Coordinate
     ensures { result ≡ coordinate_of position }
 {

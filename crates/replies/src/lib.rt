@@ -1,4 +1,6 @@
 // What comes back of a request, in the numbers that a host reads.
+#![tactic(auto)]
+
 ghost use Rattle.std.specs.Prelude.{◌≡◌};
 ghost use Rattle.replies.specs.Replied.{Small, answer_of};
 
@@ -18,6 +20,7 @@ pub struct Answer {
 }
 
 // What comes back of a request, in numbers.
+#[tactic(auto, unfolding(crate::specs::Replied::answer_of))]
 pub fn in_numbers(outcome: Outcome) -> Answer
     requires { Small outcome }
     ensures { result ≡ answer_of outcome }

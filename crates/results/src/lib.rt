@@ -1,4 +1,6 @@
 // The answer of a change at its final place: row 16, what the change is called there, the two end rules, and both alleles written out.
+#![tactic(auto)]
+
 ghost use Rattle.std.specs.Prelude.{◌+◌, ◌≤◌, length};
 ghost use Rattle.std.proofs.Math.Seq.{slice};
 ghost use Rattle.definition.specs.Limits.{longest_target, longest_allele};
@@ -13,6 +15,7 @@ ghost use Rattle.results.specs.Leaves.{Leaves};
 use definition::{Direction, Kind, Outcome, Piece, Refusal, Zero};
 
 // Row 16: a pure insertion leftward whose bases would pass the end of the target, in a piece that does.
+#[tactic(auto, unfolding(definition::specs::Answer::leaves_target))]
 fn leaves_target(
     target: &[u8],
     direction: Direction,

@@ -2,7 +2,7 @@
 -- Assumes nothing.
 use Prim.Native.Nat.{ℕ, zero, suc, ◌+◌, ◌-◌, ◌%◌, ◌<◌, ◌≤◌}
 use native.Mathlib.Omega.{arith}
-use mathlib.Core.Path.{◌≡◌, refl, sym, ap, ◌∙◌}
+use mathlib.Core.Path.{◌≡◌, refl, sym, ap, subst, ◌∙◌}
 use mathlib.Core.List.{List, ◌++◌}
 use lib.ListN.{length, get_or, set, take, drop}
 use lib.Seq.{get_or-set_same, get_or-set_other, take_at, drop_at}
@@ -76,8 +76,13 @@ pub window-set : (xs : List ℕ) (h n i b : ℕ) → length xs ≡ 2048 → i < 
 unfolding window
 window-set xs h zero i b long l m = absurd (omega arith)
 window-set xs h (suc n) zero b long l m =
-    let e : h + zero ≡ h = omega arith in
-    rw (e, get_or-set_same xs (h % 2048) b 0 (omega arith), window-apart xs (suc h) n (h % 2048) b (λ i l f. omega arith))
+    let e : (h + zero) % 2048 ≡ h % 2048 = omega arith in
+    subst (λ (k : ℕ). window (set xs k b) h (suc n) ≡ set (window xs h (suc n)) zero b) (sym e)
+    (rw (get_or-set_same xs (h % 2048) b 0 (omega arith), window-apart xs (suc h) n (h % 2048) b (λ i l f. omega arith)))
 window-set xs h (suc n) (suc i) b long l m =
-    let e : h + suc i ≡ suc h + i = omega arith in
-    rw (e, get_or-set_other xs ((suc h + i) % 2048) (h % 2048) b 0 (λ f. omega arith), window-set xs (suc h) n i b long (omega arith) (omega arith))
+    let e : (h + suc i) % 2048 ≡ (suc h + i) % 2048 = ap (λ (k : ℕ). k % 2048) (omega arith) in
+    subst (λ (k : ℕ). window (set xs k b) h (suc n) ≡ set (window xs h (suc n)) (suc i) b) (sym e)
+    (rw (
+      get_or-set_other xs ((suc h + i) % 2048) (h % 2048) b 0 (λ f. omega arith),
+      window-set xs (suc h) n i b long (omega arith) (omega arith),
+    ))

@@ -1,5 +1,7 @@
 // Bytes that are written round an array of 2,048, after whose last place comes the first: a part is stored beside a window. The array is lent:
 // nothing here copies it.
+#![tactic(auto)]
+
 ghost use Rattle.std.specs.Prelude.{◌≡◌, ◌++◌, ◌+◌, ◌≤◌, length};
 ghost use Rattle.definition.specs.Reply.{written};
 ghost use Rattle.rotating.specs.Window.{window, Placed, StoredFront};
@@ -17,6 +19,7 @@ fn store(bytes: &mut [u8], at: usize, part: &[u8])
 }
 
 // A part goes behind the window.
+#[tactic(auto, using(crate::proofs::Stores::behind))]
 pub fn store_back(bytes: &mut [u8; 2048], head: usize, count: usize, part: &[u8])
     requires { Placed head (count + length part.now) }
     ensures { window bytes.new head (count + length part.now)
@@ -26,6 +29,7 @@ pub fn store_back(bytes: &mut [u8; 2048], head: usize, count: usize, part: &[u8]
 }
 
 // A part goes before the window, and the new head comes back.
+#[tactic(auto, using(crate::proofs::Stores::before))]
 pub fn store_front(bytes: &mut [u8; 2048], head: usize, count: usize, part: &[u8]) -> usize
     requires { Placed head (count + length part.now) }
     ensures { StoredFront bytes.old bytes.new part.now head count result }

@@ -1,4 +1,6 @@
 // A window of an array of 2,048 bytes, after whose last place comes the first, written out. The array is lent: nothing here copies it.
+#![tactic(auto)]
+
 ghost use Rattle.std.specs.Prelude.{◌≡◌, ◌≤◌, length};
 ghost use Rattle.definition.specs.Reply.{written};
 ghost use Rattle.rotating.specs.Window.{window, Placed};

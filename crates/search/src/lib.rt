@@ -1,4 +1,6 @@
 // The exon that holds a base, searched in an exon table in order.
+#![tactic(auto)]
+
 ghost use Rattle.std.specs.Prelude.{◌≡◌, true};
 ghost use Rattle.definition.specs.Piece.{exons_in, exons_in_order, exon_holding};
 
@@ -6,6 +8,7 @@ use definition::{ExonFound, Zero};
 
 // The exon that holds a base, in a table in order: the first that ends past the base, if it starts at or before it. It is found by halves: the
 // exons before `from` end at or before the base, the one at `to` ends past it.
+#[tactic(auto, using(exons::proofs::Pairs::no_more))]
 pub fn exon_holding(table: &[u8], base: Zero) -> ExonFound
     requires { exons_in_order 0 (exons_in table.now) ≡ true }
     ensures { result ≡ exon_holding base.0 (exons_in table.now) }

@@ -1,2 +1,3 @@
+pub mod Prefix
 pub mod Suffix
 pub mod Unique

@@ -5,6 +5,7 @@ use mathlib.Core.Path.{◌≡◌, sym, ap, ◌∙◌}
 use mathlib.Core.List.{List}
 use lib.ListN.{length, get_or}
 use Rattle.definition.specs.Prefix.{lcs}
+use Rattle.definition.proofs.Prefixes.{lcs-le-left, lcs-le-right}
 use Rattle.definition.proofs.Steps.{lcs-next, lcs-same}
 
 from-the-end : (xs : List ℕ) (n : ℕ) → get_or xs (length xs - suc n) 0 ≡ get_or xs (length xs - 1 - n) 0
@@ -21,3 +22,6 @@ module _ (xs ys : List ℕ) (n : ℕ) (i : n < length xs) (j : n < length ys) (s
     where
       no_more : (p : ℕ) → n ≤ p → (suc n ≤ p → ⊥) → n ≡ p
       no_more p h k = omega arith
+
+-- what a shared end, counted base by base, rests on, as a set that an attribute can name
+pub ruleset endings = (lcs-le-left, lcs-le-right, end-grows, end-stops)

@@ -1,10 +1,12 @@
 // Sequences of bases: how much two alleles share at either end. No function reads outside its slice.
-// The Rust gives a count and both trimmed alleles in one answer. A struct that holds two slices is not a covered form, so here the count
-// comes back alone, and a caller takes the rest of each allele by it.
+// The Rust gives a count and both trimmed alleles in one answer. Here the count comes back alone, and a caller takes the rest of each allele by it.
+#![tactic(auto)]
+
 ghost use Rattle.std.specs.Prelude.{◌≡◌};
 ghost use Rattle.definition.specs.Prefix.{lcp, lcs};
 
 // How long a beginning the two share.
+#[tactic(auto, using(crate::proofs::Prefix::beginnings))]
 pub fn trim_common_prefixes(reference: &[u8], alternative: &[u8]) -> usize
     ensures { result ≡ lcp reference.now alternative.now }
 {
@@ -20,6 +22,7 @@ pub fn trim_common_prefixes(reference: &[u8], alternative: &[u8]) -> usize
 }
 
 // How long an end the two share.
+#[tactic(auto, using(crate::proofs::Suffix::endings))]
 pub fn trim_common_suffixes(reference: &[u8], alternative: &[u8]) -> usize
     ensures { result ≡ lcs reference.now alternative.now }
 {

@@ -62,3 +62,6 @@ in-place-met class target start end alternative o fits first last ef el referenc
       reference_buffer = er ∙ ap (λ (x : List ℕ). written x reference) (lent-part start end target);
       alternative_buffer = ea;
     }
+
+-- the part of the target that is lent, and its size
+pub ruleset in_place_parts = (lent-part, length-slice)

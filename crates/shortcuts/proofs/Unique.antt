@@ -1,10 +1,10 @@
 -- Each public contract allows one result: the way, or the numbers and every byte of both buffers. Assumes nothing.
 use mathlib.Core.Path.{sym, ◌∙◌}
 use Rattle.definition.proofs.Fixes.{Fixes}
-use Rattle.shortcuts.proofs.way_of.Reads as Way-of
+use Rattle.shortcuts.proofs.way_of.Reads as way-of
 use Rattle.shortcuts.proofs.answer_in_place.Reads as answer-in-place
 
-pub way-of-one : Fixes (λ κs x at. x) Way-of.Post
+pub way-of-one : Fixes (λ κs x at. x) way-of.Post
 way-of-one κs a x y at_x at_y p q = p ∙ sym q
 
 pub in-place-one-outcome : Fixes (λ κs x at. x) answer-in-place.Post

@@ -75,3 +75,6 @@ module _ (target alternative : List ℕ) (start end : ℕ) (ordered : start < en
   way-named Delete = refl
   way-named Replace = replaced-named
   way-named Invert = refl
+
+-- what a replacement's tests say of its way
+pub ruleset ways = (lent-part, way_same, way_long, way-many, way-single)

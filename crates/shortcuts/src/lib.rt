@@ -1,4 +1,6 @@
 // The two requests that are answered at once, between rows 10 and 12: a replacement by the same bases, and a substitution of one base.
+#![tactic(auto)]
+
 ghost use Rattle.std.specs.Prelude.{◌≡◌, ◌-◌, ◌<◌, ◌≤◌, length};
 ghost use Rattle.std.proofs.Math.Seq.{slice};
 ghost use Rattle.definition.specs.Bases.{same_bases};
@@ -18,6 +20,7 @@ pub enum Way {
 }
 
 // The way of a request. Only a replacement is answered at once.
+#[tactic(auto, unfolding(crate::specs::Ways::way_of))]
 pub fn way_of(edit: Edit, target: &[u8], start: Zero, end: Zero, alternative: &[u8]) -> Way
     requires { (start.0 < end.0) × (end.0 ≤ length target.now) }
     ensures { result ≡ way_of edit target.now start.0 end.0 alternative.now }
@@ -32,6 +35,7 @@ pub fn way_of(edit: Edit, target: &[u8], start: Zero, end: Zero, alternative: &[
 }
 
 // Whether the two are the same, base for base. As in `bases::all_bases` there is no early exit.
+#[tactic(auto, using(bases::proofs::SameBases::not_as_long))]
 fn same_bases(reference: &[u8], alternative: &[u8]) -> bool
     ensures { result ≡ same_bases reference.now alternative.now }
 {
@@ -49,6 +53,7 @@ fn same_bases(reference: &[u8], alternative: &[u8]) -> bool
 }
 
 // The way of a replacement: by the same bases, of one base by one other, or another.
+#[tactic(auto, using(crate::proofs::Ways::ways))]
 fn substitution(target: &[u8], start: Zero, end: Zero, alternative: &[u8]) -> Way
     requires { (start.0 < end.0) × (end.0 ≤ length target.now) }
     ensures { result ≡ replaced_way (slice start.0 end.0 target.now) alternative.now }
@@ -69,6 +74,7 @@ fn substitution(target: &[u8], start: Zero, end: Zero, alternative: &[u8]) -> Wa
 }
 
 // An answer given at once: the range as it is, with its bases and the alternative.
+#[tactic(auto, using(crate::proofs::InPlace::in_place_parts), unfolding(definition::specs::Verdict::answer_at_once, definition::specs::Reply::outcome_of, definition::specs::Reply::reference_out, definition::specs::Reply::alternative_out))]
 pub fn answer_in_place(
     class: Class,
     target: &[u8],

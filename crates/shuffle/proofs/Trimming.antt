@@ -7,6 +7,8 @@ use lib.ListN.{length, take, drop}
 use Rattle.definition.specs.declared.Direction.TheVariants.{Rightward, Leftward}
 use Rattle.definition.specs.Prefix.{lcp, lcs}
 use Rattle.definition.specs.Change.{trimmed_front, trimmed_end}
+use Rattle.definition.proofs.Prefixes.{lcp-le-left, lcp-le-right, lcs-le-left, lcs-le-right}
+use Rattle.definition.proofs.Parts.{lent-part}
 
 module _ {part reference : List ℕ} (lent : part ≡ reference) (alternative : List ℕ) where
   pub front-first : {front : ℕ} → front ≡ lcp part alternative → front ≡ trimmed_front Rightward reference alternative
@@ -30,3 +32,8 @@ module _ {part reference : List ℕ} (lent : part ≡ reference) (alternative : 
   front-second e r o f =
       f ∙ ap₂ lcp (r ∙ ap₂ (λ (n : ℕ) (x : List ℕ). take (length x - n) x) e lent) (o ∙ ap (λ (n : ℕ). take (length alternative - n) alternative) e)
       ∙ ap (λ (x : List ℕ). lcp (take (length reference - lcs x alternative) reference) (take (length alternative - lcs x alternative) alternative)) lent
+
+-- what each direction's trims rest on, as sets that an attribute can name
+pub ruleset rightward = (lcp-le-left, lcp-le-right, lent-part, front-first, back-second)
+
+pub ruleset leftward = (lcs-le-left, lcs-le-right, lent-part, back-first, front-second)

@@ -1,4 +1,6 @@
 // The shuffles: what the alleles of a change share is counted, from the front first or from the back first, and the change without it moves.
+#![tactic(auto)]
+
 ghost use Rattle.std.specs.Prelude.{◌≡◌, ◌-◌, ◌≤◌, length, take, drop};
 ghost use Rattle.definition.specs.declared.Direction.TheVariants.{Rightward, Leftward};
 ghost use Rattle.moves.specs.Settled.{Asked, Settled};
@@ -24,6 +26,7 @@ fn before_last(allele: &[u8], back: usize) -> &[u8]
 }
 
 // Rightward: the front that both alleles share comes off first, then the back.
+#[tactic(auto, using(crate::proofs::Trimming::rightward))]
 pub fn normalize_alleles_5_to_3(
     target: &[u8],
     piece: Piece,
@@ -56,6 +59,7 @@ pub fn normalize_alleles_5_to_3(
 }
 
 // Leftward: the back that both alleles share comes off first, then the front.
+#[tactic(auto, using(crate::proofs::Trimming::leftward))]
 pub fn normalize_alleles_3_to_5(
     target: &[u8],
     piece: Piece,

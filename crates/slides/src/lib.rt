@@ -1,5 +1,7 @@
 // Windows in a row: a change with an allele empty moves window by window to the furthest place inside piece and target. The window shows nowhere in
 // what comes back.
+#![tactic(auto)]
+
 ghost use Rattle.std.specs.Prelude.{◌≤◌, length};
 ghost use Rattle.definition.specs.declared.Direction.TheVariants.{Rightward, Leftward};
 ghost use Rattle.definition.specs.Piece.{piece_from};

@@ -1,8 +1,7 @@
 -- The change that each edit spells lies in the range, and is what the shuffle asks for. Assumes nothing.
 use mathlib.Core.Path.{◌≡◌, refl, sym, ap₂, ◌∙◌}
 use mathlib.Core.Bool.{true, false, not, true≢false, false≢true}
-use mathlib.Core.Logic.{inl, inr}
-use mathlib.Core.List.{List, [], ◌∷◌}
+use mathlib.Core.List.{List, []}
 use Prim.Native.Nat.{ℕ, ◌+◌, ◌-◌, ◌≤◌}
 use native.Mathlib.Omega.{arith}
 use borrow.Author.Tests.{eqb-true, not-false}
@@ -11,12 +10,9 @@ use lib.ListN.{length, take, drop}
 use lib.Seq.{slice, length-slice, take-append_seam}
 use Rattle.definition.specs.declared.Edit.{Edit}
 use Rattle.definition.specs.declared.Edit.TheVariants.{Insert, Duplicate, Delete, Replace, Invert}
-use Rattle.definition.specs.contracts.Edit.{the_type}
 use Rattle.definition.specs.declared.Piece.{Piece}
 use Rattle.definition.specs.declared.Zero.{Zero}
 use Rattle.spelling.specs.declared.Gaps.{Gaps}
-use denote.Enum.Declared.{tag_of}
-use types.Run.{OneOf}
 use Rattle.definition.specs.Bases.{reverse_complement}
 use Rattle.definition.specs.Limits.{longest_allele}
 use Rattle.definition.specs.Change.{Change, spelled}
@@ -61,19 +57,15 @@ module _ (target : List ℕ) (start end : Zero) (alternative : List ℕ) where
   unread Replace e = absurd (true≢false e)
   unread Invert e = refl
 
--- the bases that it puts in are a copy or none, if it is no inversion, by its tag
-pub copies : (target : List ℕ) (start end : Zero) (edit : Edit) → reads edit ≡ false → OneOf (0 ∷ 1 ∷ 2 ∷ 3 ∷ []) (tag_of the_type edit)
+-- the bases that it puts in are a copy or none, if it is no inversion
+pub copies : (target : List ℕ) (start end : Zero) (edit : Edit) → reads edit ≡ false → (edit ≡ Invert → ⊥)
     → between (gaps_of edit start end) (copied_by edit target start.0 end.0) ≡ spelled edit target start.0 end.0 []
 unfolding spelled gaps_of copied_by
 copies target start end Insert e k = absurd (true≢false e)
 copies target start end Duplicate e k = refl
 copies target start end Delete e k = refl
 copies target start end Replace e k = absurd (true≢false e)
-copies target start end Invert e k =
-    elim k [
-      | inl a ↦ absurd (omega arith)
-      | inr l ↦ elim l [ inl a ↦ absurd (omega arith) | inr m ↦ elim m [ inl a ↦ absurd (omega arith) | inr a ↦ absurd (omega arith) ] ]
-    ]
+copies target start end Invert e k = absurd (k refl)
 
 pub reads_nothing : (edit : Edit) (start end : ℕ) → reads edit ≡ false → Read edit start end []
 unfolding read_alternative

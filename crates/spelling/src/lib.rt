@@ -1,4 +1,6 @@
 // The change that each edit spells, moved in its piece, and its result there.
+#![tactic(auto)]
+
 ghost use Rattle.std.specs.Prelude.{◌≡◌, false, [], ◌≤◌, ◌<◌, length};
 ghost use Rattle.definition.specs.Limits.{longest_target};
 ghost use Rattle.definition.specs.Change.{spelled};
@@ -85,6 +87,7 @@ fn moved(
 }
 
 // The two gaps of the change that an edit spells: an insertion goes in behind its first flanking base, a duplication's copy behind its range.
+#[tactic(auto, unfolding(crate::specs::Spelled::gaps_of))]
 fn gaps_of(edit: Edit, start: Zero, end: Zero) -> Gaps
     requires { start.0 ≤ longest_target }
     ensures { result ≡ gaps_of edit start end }
@@ -111,6 +114,7 @@ fn gaps_of(edit: Edit, start: Zero, end: Zero) -> Gaps
 }
 
 // The bases of the target that an edit puts in once more: a duplication's range, and none otherwise.
+#[tactic(auto, unfolding(crate::specs::Spelled::copied_by))]
 fn copied<'a>(edit: Edit, target: &'a [u8], start: Zero, end: Zero) -> &'a [u8]
     requires { (start.0 < end.0) × (end.0 ≤ length target.now) }
     ensures { result.now ≡ copied_by edit target.now start.0 end.0 }

@@ -1,4 +1,7 @@
-// The exported entry: what a host calls with byte slices and numbers, tables as 32-bit little-endian pairs. It asks nothing of its caller.
+// The entry: what a host calls with byte slices and numbers, tables as 32-bit little-endian pairs. It asks nothing of its caller. Crate `sundrimel_c`
+// exports it.
+#![tactic(auto)]
+
 ghost use Rattle.std.specs.Prelude.{length};
 ghost use Rattle.definition.specs.Verdict.{verdict};
 ghost use Rattle.definition.specs.Reply.{reply};

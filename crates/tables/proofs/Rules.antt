@@ -16,9 +16,9 @@ module _ (bytes : List ℕ) (cds_start cds_end : Bound) (size : ℕ) where
   unfolding tables_hold
   left_over h = rw (ne_eqb (length bytes) (8 * length (exons_in bytes)) (λ e. h (omega (arith, e, pairs-count bytes))))
 
-  pub no-pair : length bytes % 8 ≡ 0 → length bytes < 8 → false ≡ tables_hold bytes cds_start cds_end size
+  pub no_pair : length bytes % 8 ≡ 0 → length bytes < 8 → false ≡ tables_hold bytes cds_start cds_end size
   unfolding tables_hold
-  no-pair w h =
+  no_pair w h =
       rw (
         eq-eqb (length bytes) (8 * length (exons_in bytes)) (omega (arith, pairs-count bytes)),
         lt-leb 1 (length (exons_in bytes)) (omega (arith, pairs-count bytes)),
@@ -33,11 +33,11 @@ module _ (bytes : List ℕ) (cds_start cds_end : Bound) (size : ℕ) where
         lt-leb (length (exons_in bytes)) most_exons (omega (arith, pairs-count bytes)),
       )
 
-  pub rules-left : length bytes % 8 ≡ 0 → 8 ≤ length bytes → length bytes ≤ 8 * most_exons → (holds : Bool)
+  pub rules_left : length bytes % 8 ≡ 0 → 8 ≤ length bytes → length bytes ≤ 8 * most_exons → (holds : Bool)
       → holds ≡ (exons_fit size 0 (exons_in bytes) && bound_in_target size cds_start && bound_in_target size cds_end && bounds_in_order cds_start cds_end)
       → holds ≡ tables_hold bytes cds_start cds_end size
   unfolding tables_hold
-  rules-left w h k holds e =
+  rules_left w h k holds e =
       rw (
         eq-eqb (length bytes) (8 * length (exons_in bytes)) (omega (arith, pairs-count bytes)),
         le-leb 1 (length (exons_in bytes)) (omega (arith, pairs-count bytes)),

@@ -1,10 +1,13 @@
 // Row 10: the table rules, and whether the row is given.
+#![tactic(auto)]
+
 ghost use Rattle.std.specs.Prelude.{◌≡◌};
 ghost use Rattle.definition.specs.Piece.{bound_in_target, bounds_in_order, tables_hold};
 ghost use Rattle.definition.specs.Verdict.{tables_broken};
 
 use definition::{Bound, Kind};
 
+#[tactic(auto, unfolding(definition::specs::Piece::bound_in_target))]
 fn bound_in_target(bound: Bound, size: usize) -> bool
     ensures { result ≡ bound_in_target size bound }
 {
@@ -16,6 +19,7 @@ fn bound_in_target(bound: Bound, size: usize) -> bool
 }
 
 // Two numbers in order. A bound that is absent is in order with any, and one that is negative is refused by itself.
+#[tactic(auto, unfolding(definition::specs::Piece::bounds_in_order))]
 fn bounds_in_order(cds_start: Bound, cds_end: Bound) -> bool
     ensures { result ≡ bounds_in_order cds_start cds_end }
 {
@@ -31,6 +35,7 @@ fn bounds_in_order(cds_start: Bound, cds_end: Bound) -> bool
 }
 
 // Row 10: whether every table rule holds, for any bytes at all. 512 pairs are 4096 bytes.
+#[tactic(auto, using(crate::proofs::Rules::left_over, crate::proofs::Rules::no_pair, crate::proofs::Rules::too_many, crate::proofs::Rules::rules_left))]
 pub fn tables_hold(table: &[u8], cds_start: Bound, cds_end: Bound, size: usize) -> bool
     ensures { result ≡ tables_hold table.now cds_start cds_end size }
 {

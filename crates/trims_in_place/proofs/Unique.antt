@@ -4,19 +4,13 @@
 use Prim.Native.Nat.{ℕ}
 use mathlib.Core.Path.{◌≡◌}
 use mathlib.Core.List.{List}
-use seplogic.Ra.Ura.{Ura}
-use base.Logic.{SProp}
-use prog.Memory.{Memory}
-use prog.Routine.{Routine}
-use types.Logic.{Logic}
-use contract.Monad.{Fun}
+use Rattle.definition.proofs.Fixes.{Fixes}
 use Rattle.allele_trims.specs.declared.Trimmed.{Trimmed}
 use Rattle.allele_trims.proofs.Unique.{SameTrim, trimmed-front-same, trimmed-back-same}
-use Rattle.alleles_in_place.proofs.Facts.{agree}
-use Rattle.alleles_in_place.proofs.Unique.{Fixed, seen, alike-seen}
+use Rattle.alleles_in_place.proofs.Unique.{seen, alike-seen}
 use Rattle.trims_in_place.specs.Rests.{rests}
-use Rattle.trims_in_place.specs.contracts.trim_front_in as trim-front-in
-use Rattle.trims_in_place.specs.contracts.trim_back_in as trim-back-in
+use Rattle.trims_in_place.proofs.trim_front_in.Reads as trim-front-in
+use Rattle.trims_in_place.proofs.trim_back_in.Reads as trim-back-in
 
 -- what can be seen of a trim's result
 abbrev trim-seen : Trimmed → ℕ × (ℕ × ℕ × List ℕ) × (ℕ × ℕ × List ℕ)
@@ -25,9 +19,8 @@ trim-seen t = (t.count, seen t.left, seen t.right)
 same_seen : {t u : Trimmed} → SameTrim t u → trim-seen t ≡ trim-seen u
 same_seen p = λ i. (p.count i, alike-seen p.left i, alike-seen p.right i)
 
-module _ {M : Type 1} {𝓤 : Ura M} (𝓛 : Logic 𝓤) (mem : Memory → SProp 𝓤) (run : Routine → Fun 𝓤) where
-  pub trim-front-in-one : Fixed 𝓤 trim-front-in.ended (trim-front-in.clauses 𝓛 mem run) (λ κs x at. trim-seen (rests x at.0.now at.1.0.now))
-  trim-front-in-one κs a g x y at_x at_y = agree 𝓤 _ _ _ (λ p q. same_seen (trimmed-front-same p q))
+pub trim-front-in-one : Fixes (λ κs x at. trim-seen (rests x at.0.now at.1.0.now)) trim-front-in.Post
+trim-front-in-one κs a x y at_x at_y p q = same_seen (trimmed-front-same p q)
 
-  pub trim-back-in-one : Fixed 𝓤 trim-back-in.ended (trim-back-in.clauses 𝓛 mem run) (λ κs x at. trim-seen (rests x at.0.now at.1.0.now))
-  trim-back-in-one κs a g x y at_x at_y = agree 𝓤 _ _ _ (λ p q. same_seen (trimmed-back-same p q))
+pub trim-back-in-one : Fixes (λ κs x at. trim-seen (rests x at.0.now at.1.0.now)) trim-back-in.Post
+trim-back-in-one κs a x y at_x at_y p q = same_seen (trimmed-back-same p q)

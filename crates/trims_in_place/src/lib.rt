@@ -1,5 +1,7 @@
 // The thin forms of `allele_trims`: two buffers are lent and trimmed in place. Each takes both alleles out of the references, calls the by-value function of
 // the same name and stores the two rests that come back; it asks and ensures what that function does, of the buffers at entry and at exit.
+#![tactic(auto)]
+
 ghost use Rattle.alleles.specs.Held.{Good};
 ghost use Rattle.allele_trims.specs.Trims.{TrimmedFront, TrimmedBack};
 ghost use Rattle.trims_in_place.specs.Rests.{rests};

@@ -5,9 +5,12 @@ use native.Mathlib.Omega.{arith}
 use mathlib.Core.Path.{◌≡◌, sym, ap, ap₂, ◌∙◌}
 use mathlib.Core.List.{List, ◌++◌}
 use lib.ListN.{length, take, drop}
+use lib.Seq.{length-slice}
 use Rattle.definition.specs.Prefix.{lcs}
+use Rattle.definition.proofs.Parts.{lent-part}
+use Rattle.counts.specs.declared.Stepped.{Stepped}
 use Rattle.rotating.specs.Window.{window}
-use Rattle.windows_left.specs.Moves.{WindowedLeft}
+use Rattle.windows_left.specs.Moves.{WindowedLeft, SteppedLeft}
 use Rattle.rotating.proofs.Laws.{window-length, window-round, window-take, window-drop}
 use Rattle.ends.proofs.Ends.{back, fits}
 
@@ -50,3 +53,14 @@ module _ (r a r' a' chunk : List ℕ) (rh rc ah ac n : ℕ) (one : min rc ac ≡
         reference = rest-left r r' chunk rh rc n within rf room p e;
         alternative = rest-left a a' chunk ah ac n within af room q f;
       }
+
+-- the chunk is the part of the target before the change
+pub stepped-left : (target r a r' a' : List ℕ) (place edge most : ℕ) (s : Stepped) → edge ≤ place → place ≤ length target
+    → s.size ≡ min most (place - edge)
+    → WindowedLeft r a (take (place - (place - s.size)) (drop (place - s.size) target)) r' a' s.moved
+    → SteppedLeft target place edge most r a r' a' s
+stepped-left target r a r' a' place edge most s above fits sized w =
+    let e = lent-part (place - s.size) place target in
+    let wide : length (take (place - (place - s.size)) (drop (place - s.size) target)) ≡ s.size =
+    ap length e ∙ length-slice (place - s.size) place target (omega arith) ∙ omega arith in
+    record { size = sized; within = omega (arith, w.within, wide); windowed = rw (← e) w }

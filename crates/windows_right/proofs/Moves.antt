@@ -1,13 +1,16 @@
 -- One window of the move rightward: how much two alleles begin with in common once the chunk is behind both, and where what is left of each then
 -- stands. Assumes nothing.
-use Prim.Native.Nat.{ℕ, ◌+◌, ◌%◌, ◌≤◌, min}
+use Prim.Native.Nat.{ℕ, ◌+◌, ◌-◌, ◌%◌, ◌≤◌, min}
 use native.Mathlib.Omega.{arith}
-use mathlib.Core.Path.{◌≡◌, sym, ap₂, ◌∙◌}
+use mathlib.Core.Path.{◌≡◌, sym, ap, ap₂, ◌∙◌}
 use mathlib.Core.List.{List, ◌++◌}
 use lib.ListN.{length, take, drop}
+use lib.Seq.{length-slice}
 use Rattle.definition.specs.Prefix.{lcp}
+use Rattle.definition.proofs.Parts.{lent-part}
+use Rattle.counts.specs.declared.Stepped.{Stepped}
 use Rattle.rotating.specs.Window.{window}
-use Rattle.windows_right.specs.Moves.{WindowedRight}
+use Rattle.windows_right.specs.Moves.{WindowedRight, SteppedRight}
 use Rattle.rotating.proofs.Laws.{window-length, window-round, window-part}
 use Rattle.ends.proofs.Ends.{front, fits}
 
@@ -36,3 +39,14 @@ module _ (r a r' a' chunk : List ℕ) (rh rc ah ac n : ℕ) (one : min rc ac ≡
         reference = rest-right r r' chunk rh rc n within e;
         alternative = rest-right a a' chunk ah ac n within f;
       }
+
+-- the chunk is the part of the target behind the change
+pub stepped-right : (target r a r' a' : List ℕ) (place k edge most : ℕ) (s : Stepped) → place + k ≤ edge → edge ≤ length target
+    → s.size ≡ min most (edge - (place + k))
+    → WindowedRight r a (take (place + k + s.size - (place + k)) (drop (place + k) target)) r' a' s.moved
+    → SteppedRight target place k edge most r a r' a' s
+stepped-right target r a r' a' place k edge most s below fits sized w =
+    let e = lent-part (place + k) (place + k + s.size) target in
+    let wide : length (take (place + k + s.size - (place + k)) (drop (place + k) target)) ≡ s.size =
+    ap length e ∙ length-slice (place + k) (place + k + s.size) target (omega arith) ∙ omega arith in
+    record { size = sized; within = omega (arith, w.within, wide); windowed = rw (← e) w }

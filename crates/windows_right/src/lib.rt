@@ -1,5 +1,7 @@
 // One window of the move rightward: bases of the target are stored behind both alleles, and what the two then begin with in common says how far the
 // change moves. The alleles are windows of lent arrays, so nothing here copies them; the caller moves both heads on by what comes back.
+#![tactic(auto)]
+
 ghost use Rattle.std.specs.Prelude.{◌≡◌, ◌+◌, ◌%◌, ◌≤◌, min, length};
 ghost use Rattle.rotating.specs.Window.{window, Placed};
 ghost use Rattle.windows_right.specs.Moves.{WindowedRight, SteppedRight};

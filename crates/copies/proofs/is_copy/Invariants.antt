@@ -1,0 +1,13 @@
+-- What the rests from i on say, the whole says.
+use Rattle.std.proofs.Common.{length, ◌-◌, ◌≡◌, drop}
+use Rattle.definition.specs.Bases.{same_bases}
+use Rattle.rotating.specs.Window.{window}
+use Rattle.copies.proofs.is_copy.Given as goal
+
+abbrev pub invariant-loop-i : goal.invariant-loop-i
+invariant-loop-i l =
+    same_bases (drop l.i l.part) (drop l.i (window l.alternative l.head (length l.part)))
+    ≡ same_bases l.part (window l.alternative l.head (length l.part))
+
+abbrev pub decreases-loop-i : goal.decreases-loop-i
+decreases-loop-i l = length l.part - l.i
