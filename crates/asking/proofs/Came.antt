@@ -31,7 +31,7 @@ use Rattle.targets.proofs.Fronts.{front}
 use Rattle.asking.specs.declared.Reached.{Reached}
 use Rattle.asking.specs.declared.Reached.TheVariants.{Outcome, Problem}
 use Rattle.asking.specs.Handed.{position_of, bound_number, handed_to}
-use Rattle.asking.specs.Reached.{exons_at, Came, handed, stopped, on_target, on_range, on_words, Answers}
+use Rattle.asking.specs.Reached.{exons_at, Came, stopped, on_target, on_range, on_words, Answers}
 
 module _ {came : Came} {reference alternative : List ℕ} where
   pub stops : {problem : problems.Problem} → came ≡ stopped problem → Answers came (Problem problem) reference reference alternative alternative
@@ -66,8 +66,8 @@ module _ (text : List ℕ) (request : Request) (start end : ℕ) (letters : List
       outcome reference reference' alternative alternative'
       → Answers (on_target text request start end letters reference_room alternative_room) (Outcome outcome) reference reference' alternative alternative'
   unfolding on_target handed_to
-  with-table e is-table is-start is-end is-first is_last is_IsWord met =
-      let m = rw (is-table, is-start, is-end, is-first, is_last, is_IsWord) at met in
+  with-table e is-table is-start is-end is-first is_last is_word met =
+      let m = rw (is-table, is-start, is-end, is-first, is_last, is_word) at met in
       rw (sym are ∙ e) (record { reached = ap Outcome m.numbers; reference_buffer = m.reference_buffer; alternative_buffer = m.alternative_buffer })
 
 -- and on its range, by what its target comes to

@@ -15,7 +15,7 @@ use Rattle.decimals.specs.Decimal.{decimal_of}
 use Rattle.decimals.specs.declared.Number.{Number}
 use Rattle.decimals.specs.declared.Number.TheVariants.{Is, Bad}
 use Rattle.exon_lists.specs.Laid.{laid_at}
-use Rattle.exon_lists.proofs.Laid.{length-laid}
+use Rattle.exon_lists.proofs.Laid.{length-laid, laid-nothing}
 use Rattle.exon_lists.specs.declared.Exons.{Exons}
 use Rattle.exon_lists.specs.declared.Exons.TheVariants.{Table, BadPair, TooMany}
 use Rattle.exon_lists.specs.Exons.{Pairs, four_bytes, both_numbers, pair_bytes, pairs_behind, pairs_of}
@@ -113,3 +113,5 @@ no-exons text {word} e = rw (eq-eqb word no_word e)
 pub some-exons : (text : List ℕ) {word : ℕ} → (word ≡ no_word → ⊥) → exons_at text word ≡ pairs_of (word_at text word)
 unfolding exons_at
 some-exons text {word} e = rw (ne_eqb word no_word e)
+
+pub ruleset nothing_laid = (laid-nothing)

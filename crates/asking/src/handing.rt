@@ -30,6 +30,7 @@ fn bound_number(bound: Bound) -> i64
 }
 
 // The exon table that a word gives: empty where no word does.
+#[tactic(auto, using(crate::proofs::Tables::nothing_laid), unfolding(crate::specs::Reached::exons_at))]
 fn exons_at(text: &[u8], word: usize, table: &mut [u8]) -> Exons
     ensures value { result ≡ (exons_at text.now word).came }
     ensures table_after { table.new ≡ laid_at 0 (exons_at text.now word).bytes table.old }

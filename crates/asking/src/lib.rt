@@ -1,5 +1,7 @@
 // From words to an outcome: the request that they make is handed to the normalizer with its target. A file that the words name is read by the
 // caller, who lends its bytes.
+#![tactic(auto)]
+
 mod handing;
 
 ghost use Rattle.std.specs.Prelude.{◌≡◌, length};

@@ -1,4 +1,6 @@
 // Numbers as words give them: decimals without a sign, up to 2,147,483,647.
+#![tactic(auto)]
+
 ghost use Rattle.std.specs.Prelude.{◌≡◌};
 ghost use Rattle.decimals.specs.Decimal.{appended_to, decimal_of};
 

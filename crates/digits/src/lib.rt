@@ -1,4 +1,6 @@
 // A number on a page, as a decimal.
+#![tactic(auto)]
+
 ghost use Rattle.terminal.specs.Page.{Put};
 ghost use Rattle.digits.specs.Digits.{decimal_text};
 

@@ -1,4 +1,6 @@
 // An exon table as a person writes it, pairs as in 0-4,4-12, put into the bytes that a request has.
+#![tactic(auto)]
+
 ghost use Rattle.std.specs.Prelude.{◌≡◌, ◌≤◌, set};
 ghost use Rattle.exon_lists.specs.Exons.{four_bytes, pair_bytes, pair_came, pair_put, pairs_of};
 ghost use Rattle.exon_lists.specs.Laid.{laid_at};

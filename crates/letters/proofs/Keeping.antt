@@ -98,3 +98,5 @@ module _ (bytes target : List ℕ) where
 
       pub done-laid : then ≡ letters_laid bytes target
       done-laid = laid (sym (ap (take (length target)) all-kept) ∙ take_all (length target) at.kept (omega arith))
+
+pub ruleset keeping = (start, next)

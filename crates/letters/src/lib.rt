@@ -1,4 +1,6 @@
 // A target's letters as a person writes them: in lines, in either case, with or without a FASTA header.
+#![tactic(auto)]
+
 ghost use Rattle.std.specs.Prelude.{◌≡◌, cond, ◌+◌, ◌<◌, length, set};
 ghost use Rattle.letters.specs.Letters.{upper_case, is_blank, letters_start, record_of, kept_in, behind_record, letters_read, letters_laid};
 
@@ -11,6 +13,7 @@ pub enum Letters {
 }
 
 // A letter in upper case. Every other byte stays as it is.
+#[tactic(auto, unfolding(crate::specs::Letters::upper_case))]
 fn upper(letter: u8) -> u8
     ensures { result ≡ upper_case letter }
 {
@@ -24,6 +27,7 @@ fn upper(letter: u8) -> u8
 }
 
 // A space, a tab or a part of a line's end.
+#[tactic(auto, unfolding(crate::specs::Letters::is_blank))]
 fn is_blank(byte: u8) -> bool
     ensures { result ≡ is_blank byte }
 {
@@ -31,6 +35,7 @@ fn is_blank(byte: u8) -> bool
 }
 
 // Where the letters of a file begin: after its first line, if that is a FASTA header.
+#[tactic(auto, using(crate::proofs::Header::none, crate::proofs::Header::header, crate::proofs::Header::letters))]
 fn letters_start(text: &[u8]) -> usize
     ensures { result ≡ letters_start text.now }
 {
@@ -57,6 +62,7 @@ fn keep(byte: u8, target: &mut [u8], size: usize) -> usize
 }
 
 // Puts the letters of a part of a file, in upper case and without blanks, at the front of a target.
+#[tactic(auto, using(crate::proofs::Keeping::keeping))]
 fn keep_letters(part: &[u8], target: &mut [u8]) -> Letters
     ensures value { result ≡ kept_in (length target.old) part.now }
     ensures target_after { target.new ≡ letters_laid part.now target.old }

@@ -7,13 +7,12 @@ use mathlib.Core.List.{List, [], ◌∷◌}
 use lib.Dec.{eqb}
 use lib.ListN.{length, take, drop, length-drop}
 use lib.Seq.{drop-drop}
-use Rattle.bytes.specs.Bytes.{index_of, index_after}
-use Rattle.text.specs.Text.{part_of, found_at, after_found}
+use Rattle.text.specs.Text.{part_of, found_at, after_found, index_of}
 use Rattle.text.proofs.Found.{ends_at, part-is}
 use Rattle.lines.specs.Lines.{line_of}
 
 first-line : (text : List ℕ) → line_of zero text ≡ take (index_of 10 text) text
-unfolding line_of index_of index_after
+unfolding line_of index_of
 first-line [] = refl
 first-line (byte ∷ text) = go (eqb byte 10) refl (first-line text)
   where
@@ -27,7 +26,7 @@ behind_first : List ℕ → ℕ
 behind_first text = min (index_of 10 text + 1) (length text)
 
 later-line : (n : ℕ) (text : List ℕ) → line_of (suc n) text ≡ line_of n (drop (behind_first text) text)
-unfolding line_of index_of index_after behind_first
+unfolding line_of index_of behind_first
 later-line n [] = refl
 later-line n (byte ∷ text) = go (eqb byte 10) refl (later-line n text)
   where

@@ -1,4 +1,6 @@
 // The words and the lines of a text: a byte 0 ends each word, and a line end each line.
+#![tactic(auto)]
+
 ghost use Rattle.std.specs.Prelude.{◌≡◌};
 ghost use Rattle.lines.specs.Lines.{word_at, Line};
 

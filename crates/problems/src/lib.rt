@@ -1,4 +1,6 @@
 // A sentence for each reason why words reach no outcome: it names the argument, and says what to give instead.
+#![tactic(auto)]
+
 ghost use Rattle.std.specs.Prelude.{◌≡◌};
 ghost use Rattle.terminal.specs.Page.{Put};
 ghost use Rattle.problems.specs.Lines.{fault_line, unread_line, line_number, place_of, mentioned};
@@ -7,7 +9,7 @@ ghost use Rattle.problems.specs.Problems.{problem_text};
 use requests::Fault;
 
 // Why a target is not read.
-#[derive(Drop)]
+#[derive(Clone, Copy)]
 pub enum Unread {
     Missing,
     Twice,
@@ -18,7 +20,7 @@ pub enum Unread {
 }
 
 // Why words reach no outcome.
-#[derive(Drop)]
+#[derive(Clone, Copy)]
 pub enum Problem {
     Wrong(Fault, usize),
     Unread(Unread),
@@ -87,6 +89,7 @@ fn place_of(problem: Problem) -> usize
 }
 
 // The option, where the sentence of a line names it.
+#[tactic(auto, using(terminal::proofs::Pages::none))]
 fn put_mentioned(page: &mut [u8], used: usize, number: usize, option: &[u8]) -> usize
     ensures { Put page.old used (mentioned number option.now) page.new result }
 {

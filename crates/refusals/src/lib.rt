@@ -1,4 +1,6 @@
 // The refusals, by 01's numbers and names.
+#![tactic(auto)]
+
 ghost use Rattle.terminal.specs.Page.{Put};
 ghost use Rattle.refusals.specs.Refusals.{refusal_name, refusal_text};
 

@@ -22,41 +22,41 @@ module _ (text : List ℕ) (option at : ℕ) {behind : ℕ} (is-behind : behind 
   unfolding values_at
   word-alone h = rw (is-behind, lt-ltb _ _ h)
 
-  module _ (numbered : Kind ≤ option) {word : List ℕ} (is_IsWord : word ≡ word_at text at) {number : Number} (is_number : number ≡ number_of option word) where
+  module _ (numbered : Kind ≤ option) {word : List ℕ} (is_word : word ≡ word_at text at) {number : Number} (is_number : number ≡ number_of option word) where
     pub no_number : number ≡ Bad → {fault : Fault} → fault ≡ fault_of option → Wrong fault ≡ values_at text option at
     unfolding values_at
-    no_number bad is-fault = rw (is-fault, le-ltb _ _ numbered, ← is_IsWord, ← is_number, bad)
+    no_number bad is-fault = rw (is-fault, le-ltb _ _ numbered, ← is_word, ← is_number, bad)
 
     module _ {first : ℕ} (is-first : number ≡ Is first) where
       pub one_number : option < Cds → Next (record { option = option; at = at; first = first; second = 0; next = behind }) ≡ values_at text option at
       unfolding values_at
-      one_number h = rw (is-behind, le-ltb _ _ numbered, ← is_IsWord, ← is_number, is-first, lt-ltb _ _ h)
+      one_number h = rw (is-behind, le-ltb _ _ numbered, ← is_word, ← is_number, is-first, lt-ltb _ _ h)
 
       module _ (two : Cds ≤ option) {other : List ℕ} (is-other : other ≡ word_at text behind) {number' : Number} (is-number' : number' ≡ decimal_of other) where
         pub no_second : number' ≡ Bad → {fault : Fault} → fault ≡ fault_of option → Wrong fault ≡ values_at text option at
         unfolding values_at
         no_second bad is-fault =
-            rw (is-fault, le-ltb _ _ numbered, ← is_IsWord, ← is_number, is-first, le-ltb _ _ two, ← is-behind, ← is-other, ← is-number', bad)
+            rw (is-fault, le-ltb _ _ numbered, ← is_word, ← is_number, is-first, le-ltb _ _ two, ← is-behind, ← is-other, ← is-number', bad)
 
         pub two-numbers : {second next : ℕ} → number' ≡ Is second → next ≡ after_found text behind 0
             → Next (record { option = option; at = at; first = first; second = second; next = next }) ≡ values_at text option at
         unfolding values_at
         two-numbers is-second is-next =
-            rw (is-next, le-ltb _ _ numbered, ← is_IsWord, ← is_number, is-first, le-ltb _ _ two, ← is-behind, ← is-other, ← is-number', is-second)
+            rw (is-next, le-ltb _ _ numbered, ← is_word, ← is_number, is-first, le-ltb _ _ two, ← is-behind, ← is-other, ← is-number', is-second)
 
-module _ (text : List ℕ) (at : ℕ) {word : List ℕ} {number : Number} (is_IsWord : word ≡ word_at text at) (is_number : number ≡ option_of word) where
+module _ (text : List ℕ) (at : ℕ) {word : List ℕ} {number : Number} (is_word : word ≡ word_at text at) (is_number : number ≡ option_of word) where
   pub unknown : number ≡ Bad → Wrong UnknownOption ≡ step_at text at
   unfolding step_at
-  unknown bad = rw (← is_IsWord, ← is_number, bad)
+  unknown bad = rw (← is_word, ← is_number, bad)
 
   module _ {option value : ℕ} (is-option : number ≡ Is option) (is-value : value ≡ after_found text at 0) where
     pub no_value : value ≡ length text → Wrong NoValue ≡ step_at text at
     unfolding step_at
-    no_value end = rw (← is_IsWord, ← is_number, is-option, ← is-value, eq-eqb _ _ end)
+    no_value end = rw (← is_word, ← is_number, is-option, ← is-value, eq-eqb _ _ end)
 
     pub valued : (value ≡ length text → ⊥) → {step : Step} → step ≡ values_at text option value → step ≡ step_at text at
     unfolding step_at
-    valued inside is-step = rw (is-step, ← is_IsWord, ← is_number, is-option, ← is-value, ne_eqb _ _ inside)
+    valued inside is-step = rw (is-step, ← is_word, ← is_number, is-option, ← is-value, ne_eqb _ _ inside)
 
 -- what begins behind a later index begins behind an earlier one
 pub from-before : (text : List ℕ) (at value : ℕ) (step : Step) → min (at + 1) (length text) ≤ value → Onward text value step → Onward text at step

@@ -1,4 +1,6 @@
 // A request as words give it: an option's name, then its values. The words are those of a command line, each ended by a byte 0.
+#![tactic(auto)]
+
 mod names;
 
 ghost use Rattle.std.specs.Prelude.{◌≡◌};
@@ -14,7 +16,7 @@ pub const NO_WORD: usize = 18446744073709551615;
 pub const NO_EDIT: u32 = 5;
 
 // Where the words begin that are read later.
-#[derive(Drop)]
+#[derive(Clone, Copy)]
 pub struct Words {
     pub target: usize,
     pub file: usize,
@@ -23,7 +25,7 @@ pub struct Words {
 }
 
 // The numbers that words stand for.
-#[derive(Drop)]
+#[derive(Clone, Copy)]
 pub struct Codes {
     pub kind: u32,
     pub edit: u32,
@@ -32,28 +34,28 @@ pub struct Codes {
 }
 
 // A bound of the CDS.
-#[derive(Drop)]
+#[derive(Clone, Copy)]
 pub enum Bound {
     Unbound,
     At(u32),
 }
 
 // The bounds of the CDS.
-#[derive(Drop)]
+#[derive(Clone, Copy)]
 pub struct Bounds {
     pub start: Bound,
     pub end: Bound,
 }
 
 // The range of an edit.
-#[derive(Drop)]
+#[derive(Clone, Copy)]
 pub enum Interval {
     Nowhere,
     Between(u32, u32),
 }
 
 // What words ask for.
-#[derive(Drop)]
+#[derive(Clone, Copy)]
 pub struct Request {
     pub words: Words,
     pub codes: Codes,
@@ -62,7 +64,7 @@ pub struct Request {
 }
 
 // What is wrong with an option.
-#[derive(Drop)]
+#[derive(Clone, Copy)]
 pub enum Fault {
     UnknownOption,
     NoValue,
@@ -76,7 +78,7 @@ pub enum Fault {
 
 // An option with its values: where the first of them begins, the numbers that they stand for, and where the option after it begins.
 // A number that it doesn't have is 0.
-#[derive(Drop)]
+#[derive(Clone, Copy)]
 pub(crate) struct Values {
     pub(crate) option: u32,
     pub(crate) at: usize,
@@ -125,6 +127,7 @@ fn nothing() -> Request
 }
 
 // The bounds of the CDS with an option's values.
+#[tactic(auto, unfolding(crate::specs::Request::with_bounds))]
 fn with_bounds(bounds: Bounds, values: Values) -> Bounds
     ensures { result ≡ with_bounds bounds values }
 {
@@ -147,6 +150,7 @@ fn with_bounds(bounds: Bounds, values: Values) -> Bounds
 }
 
 // A request with an option's values.
+#[tactic(auto, unfolding(crate::specs::Request::with_bounds, crate::specs::Request::with_values))]
 fn with_values(asked: Request, values: Values) -> Request
     ensures { result ≡ with_values asked values }
 {

@@ -51,6 +51,7 @@ fn line_of(word: &[u8], lines: &[u8]) -> Number
     Number::Bad
 }
 
+#[tactic(auto, unfolding(crate::specs::Names::meaning, crate::specs::Names::place_in, text::specs::Text::parts_at))]
 pub(crate) fn option_of(word: &[u8]) -> Number
     ensures { result ≡ option_of word.now }
 {
@@ -72,6 +73,7 @@ pub(crate) fn option_of(word: &[u8]) -> Number
 }
 
 // The number that an option's word stands for: the codes of kinds, edits and directions count from 0 in the order of their words.
+#[tactic(auto, unfolding(crate::specs::Names::meaning, crate::specs::Names::place_in, text::specs::Text::parts_at))]
 pub(crate) fn number_of(option: u32, word: &[u8]) -> Number
     ensures { result ≡ number_of option word.now }
 {

@@ -38,3 +38,5 @@ module _ (text : List ℕ) (from end : ℕ) (passed : from + length (digits_in (
   at-end h =
       let here : length (digits_in (drop end text)) ≡ 0 = rw (drop_of_length-le text h) in
       omega arith
+
+pub ruleset passing = (one_more, stopped, at-end)

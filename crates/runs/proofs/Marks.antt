@@ -44,3 +44,5 @@ module _ (field : List ℕ) (at : ℕ) where
       let size : end - at ≡ length (digits_in (drop at field)) = omega arith in
       let in_order : at ≤ end = omega arith in
       rw (le-ltb end at in_order, le-ltb (length field) end h, size) (digits-front (drop at field))
+
+pub ruleset marks = (star-mark, star-times, other-mark, other-times, end_mark, end-times)

@@ -1,4 +1,6 @@
 // Runs in a field: A*50 is a run of fifty As.
+#![tactic(auto)]
+
 ghost use Rattle.std.specs.Prelude.{◌≡◌, ◌+◌, ◌<◌, ◌≤◌, length, drop, replicate};
 ghost use Rattle.decimals.specs.Decimal.{decimal_of};
 ghost use Rattle.terminal.specs.Page.{Put};
@@ -7,6 +9,7 @@ ghost use Rattle.runs.specs.Runs.{or_once, digits_in, times_in, mark_size, separ
 use decimals::Number;
 
 // Where the digits that begin at an index end.
+#[tactic(auto, using(crate::proofs::Digits::passing))]
 fn digits_end(field: &[u8], from: usize) -> usize
     requires { from ≤ length field.now }
     ensures value { result ≡ from + length (digits_in (drop from field.now)) }
@@ -26,6 +29,7 @@ fn digits_end(field: &[u8], from: usize) -> usize
 }
 
 // Where the run that begins at an index ends: after its count, if a star follows the byte.
+#[tactic(auto, using(crate::proofs::Marks::marks))]
 fn run_end(field: &[u8], from: usize) -> usize
     requires { from < length field.now }
     ensures value { result ≡ from + 1 + mark_size (drop (from + 1) field.now) }
@@ -52,6 +56,7 @@ fn count_at(field: &[u8], from: usize) -> u32
 }
 
 // How often the byte at an index stands in its run.
+#[tactic(auto, using(crate::proofs::Marks::marks))]
 fn run_count(field: &[u8], from: usize) -> u32
     requires { from < length field.now }
     ensures { result ≡ times_in (drop (from + 1) field.now) }
@@ -73,6 +78,7 @@ fn separated(byte: u8, separator: u8) -> u8
 }
 
 // Puts so many of one byte at the end of a text of this size; the size then.
+#[tactic(auto, using(terminal::proofs::Pages::none))]
 fn put_run(text: &mut [u8], size: usize, byte: u8, times: usize) -> usize
     ensures { Put text.old size (replicate times byte) text.new result }
 {

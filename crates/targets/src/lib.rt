@@ -1,4 +1,6 @@
 // A target as the words of a command line give it: its letters, or a file that has them. The file is read by the caller, who lends its bytes.
+#![tactic(auto)]
+
 ghost use Rattle.std.specs.Prelude.{◌≡◌, length};
 ghost use Rattle.targets.specs.Sources.{found, of_file, source_of, target_of, laid};
 
@@ -20,6 +22,7 @@ pub enum Target {
     Unread(Unread),
 }
 
+#[tactic(auto, unfolding(crate::specs::Sources::target_of, crate::specs::Sources::laid))]
 fn read_text(text: &[u8], target: &mut [u8]) -> Target
     ensures value { result ≡ target_of (length target.old) (found text.now) }
     ensures target_after { target.new ≡ laid (found text.now) target.old }
@@ -31,6 +34,7 @@ fn read_text(text: &[u8], target: &mut [u8]) -> Target
     }
 }
 
+#[tactic(auto, unfolding(crate::specs::Sources::of_file, crate::specs::Sources::target_of, crate::specs::Sources::laid))]
 fn read_file(file: File, bytes: &[u8], target: &mut [u8]) -> Target
     ensures value { result ≡ target_of (length target.old) (of_file file bytes.now) }
     ensures target_after { target.new ≡ laid (of_file file bytes.now) target.old }
@@ -43,6 +47,7 @@ fn read_file(file: File, bytes: &[u8], target: &mut [u8]) -> Target
 }
 
 // The target of two words, of which one is given.
+#[tactic(auto, unfolding(crate::specs::Sources::source_of, crate::specs::Sources::target_of, crate::specs::Sources::laid))]
 pub fn read(
     text: &[u8],
     letters: usize,

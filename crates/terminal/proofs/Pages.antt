@@ -24,6 +24,9 @@ then {s} {t} first second =
 pub record Left (before : List ℕ) (used : ℕ) (text bytes : List ℕ) (count i : ℕ) : Type 0 where
   pub held : with_text (page before used) text ≡ with_text (page bytes count) (drop i text)
 
+pub begun : (text before : List ℕ) (used : ℕ) → Left before used text before used 0
+begun text before used = record { held = refl }
+
 module _ {text before bytes : List ℕ} {used count i : ℕ} (left : Left before used text bytes count i) where
   pub next : {after : List ℕ} {end : ℕ} → i < length text → Put bytes count (get_or text i 0 ∷ []) after end → Left before used text after end (i + 1)
   unfolding with_text

@@ -8,8 +8,7 @@ use borrow.Author.Tests.{eqb-true, eqb-false}
 use lib.Dec.{eqb}
 use lib.ListN.{length, take, drop, length-drop}
 use lib.Seq.{drop-drop}
-use Rattle.bytes.specs.Bytes.{index_of, index_after}
-use Rattle.text.specs.Text.{part_of, found_at, on_first, parts_at}
+use Rattle.text.specs.Text.{part_of, found_at, index_of, on_first, parts_at}
 use Rattle.text.proofs.Found.{ends_at, part-is}
 
 pub record Parted (byte : ℕ) (xs part : List ℕ) : Type 0 where
@@ -18,7 +17,7 @@ pub record Parted (byte : ℕ) (xs part : List ℕ) : Type 0 where
 
 module _ (byte : ℕ) where
   split-last : (xs : List ℕ) → index_of byte xs ≡ length xs → parts_at byte xs ≡ take (index_of byte xs) xs ∷ []
-  unfolding parts_at index_of index_after
+  unfolding parts_at index_of
   split-last [] e = refl
   split-last (x ∷ xs) e = go (eqb x byte) refl (split-last xs)
     where
@@ -33,7 +32,7 @@ module _ (byte : ℕ) where
 
   split-more : (xs : List ℕ) → index_of byte xs < length xs
       → parts_at byte xs ≡ take (index_of byte xs) xs ∷ parts_at byte (drop (suc (index_of byte xs)) xs)
-  unfolding parts_at index_of index_after
+  unfolding parts_at index_of
   split-more [] h = absurd (omega arith)
   split-more (x ∷ xs) h = go (eqb x byte) refl (split-more xs)
     where

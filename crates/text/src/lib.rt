@@ -1,4 +1,6 @@
 // Parts of a text, and where a byte that parts it stands.
+#![tactic(auto)]
+
 ghost use Rattle.std.specs.Prelude.{◌≡◌, ◌+◌, ◌≤◌, min, length};
 ghost use Rattle.text.specs.Text.{part_of, found_at, after_found};
 
@@ -16,6 +18,7 @@ pub fn part(text: &[u8], from: usize, to: usize) -> &[u8]
 }
 
 // Where the first of a byte stands at or after an index: the text's end where there is none.
+#[tactic(auto, using(crate::proofs::Found::index_here, crate::proofs::Found::index_past, crate::proofs::Found::index_end))]
 pub fn find(text: &[u8], from: usize, byte: u8) -> usize
     ensures value { result ≡ found_at text.now from byte }
     ensures upper_bound { (result ≤ length text.now) × (min from (length text.now) ≤ result) }
@@ -23,7 +26,12 @@ pub fn find(text: &[u8], from: usize, byte: u8) -> usize
     if text.len() < from {
         return text.len();
     }
-    bytes::scan::find(text, from, text.len(), byte)
+    for i in from..text.len() {
+        if text[i] == byte {
+            return i;
+        }
+    }
+    text.len()
 }
 
 // The index behind the first of a byte at or after an index: the text's end where there is none.

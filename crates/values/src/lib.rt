@@ -1,4 +1,6 @@
 // The values of an answer, in words: its class, its range and an allele.
+#![tactic(auto)]
+
 ghost use Rattle.terminal.specs.Page.{Put};
 ghost use Rattle.values.specs.Values.{class_name, range_text, allele_text};
 
