@@ -1,8 +1,12 @@
 // How long the work of one window takes: twenty bases go behind two alleles, and what both then begin with comes off. `time` before the program
 // with a form and a number of rounds tells it; without arguments each form goes its rounds a few times, and its last count is written.
+#![tactic(auto)]
+
 use alleles::Allele;
 use decimals::Number;
-use libc::STDOUT_FILENO;
+use std::env::FillError;
+use std::io;
+use std::rt::Env;
 
 const WINDOW: [u8; 20] = *b"AAAAAAAAAAAAAAAAAAAA";
 
@@ -54,52 +58,55 @@ fn by_value(rounds: u32) -> usize {
     shared
 }
 
-fn say(words: &[u8]) {
-    io::write_all(STDOUT_FILENO, words);
+fn say(rt: &impl Print, words: &[u8]) -> io::Result<()> {
+    rt.write_all(words)
 }
 
 // The line of a form: its name, its rounds, and how many bases came off in the last.
-fn say_form(name: &[u8], rounds: u32, shared: usize) {
-    say(name);
-    say(b": ");
-    io::print_decimal(STDOUT_FILENO, rounds as u64);
-    say(b" rounds, ");
-    io::print_decimal(STDOUT_FILENO, shared as u64);
-    say(b" bases came off in the last\n");
+fn say_form(rt: &impl Print, name: &[u8], rounds: u32, shared: usize) -> io::Result<()> {
+    say(rt, name)?;
+    say(rt, b": ")?;
+    rt.print(rounds)?;
+    say(rt, b" rounds, ")?;
+    rt.print(shared)?;
+    say(rt, b" bases came off in the last\n")
 }
 
 // A form by its name, so many rounds.
-fn go(form: &[u8], rounds: u32) {
+fn go(rt: &impl Print, form: &[u8], rounds: u32) -> io::Result<()> {
     if check::same(form, b"lent") {
-        say_form(form, rounds, lent(rounds));
-        return;
+        return say_form(rt, form, rounds, lent(rounds));
     }
     if check::same(form, b"by-value") {
-        say_form(form, rounds, by_value(rounds));
-        return;
+        return say_form(rt, form, rounds, by_value(rounds));
     }
-    say(b"The first argument is no form. Give lent or by-value.\n");
+    say(
+        rt,
+        b"The first argument is no form. Give lent or by-value.\n",
+    )
 }
 
-// The form and the rounds that the arguments name.
-fn go_as_asked() {
-    let mut form = [0u8; 16];
+// A form, and the rounds that the second argument names.
+fn go_as_asked(rt: &(impl Env + Print), form: &[u8]) -> io::Result<()> {
     let mut count = [0u8; 16];
-    let form_size = os::arg(1, &mut form);
-    let count_size = os::arg(2, &mut count);
+    let count_size = rt.arg(2, &mut count).unwrap_or(0);
     match decimals::decimal(text::part(&count, 0, count_size)) {
-        Number::Is(rounds) => go(text::part(&form, 0, form_size), rounds),
+        Number::Is(rounds) => go(rt, form, rounds),
         Number::Bad => say(
+            rt,
             b"The second argument is no number. Give the rounds, as in: allele_rounds lent 10000000\n",
         ),
     }
 }
 
-fn main() {
-    if 1 < os::arg_count() {
-        go_as_asked();
-        return;
+fn main(rt: HostRuntime) -> io::Result<()> {
+    let mut form = [0u8; 16];
+    match rt.arg(1, &mut form) {
+        Ok(form_size) => go_as_asked(&rt, text::part(&form, 0, form_size)),
+        Err(FillError::TooLong) => go_as_asked(&rt, b""),
+        Err(FillError::NotPresent) => {
+            go(&rt, b"lent", 1000)?;
+            go(&rt, b"by-value", 1000)
+        }
     }
-    go(b"lent", 1000);
-    go(b"by-value", 1000);
 }

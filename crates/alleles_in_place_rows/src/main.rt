@@ -1,5 +1,7 @@
 // Runs the thin forms over small alleles, one of which goes round its array's end, and writes one line a row: what was done and what the
 // alleles then hold.
+#![tactic(auto)]
+
 ghost use Rattle.std.specs.Prelude.{◌+◌, ◌-◌, ◌%◌, ◌≤◌, ◌≡◌, ◌++◌, length, take, drop};
 ghost use Rattle.alleles.specs.Held.{held, Good, Holds};
 ghost use Rattle.allele_trims.specs.Trims.{TrimmedFront, TrimmedBack};
@@ -7,7 +9,7 @@ ghost use Rattle.allele_trims.specs.Trims.{TrimmedFront, TrimmedBack};
 use allele_trims::Trimmed;
 use alleles::Allele;
 use alleles_in_place::{keep_back_in, keep_front_in, push_back_in, push_front_in};
-use libc::STDOUT_FILENO;
+use std::io;
 use trims_in_place::{trim_back_in, trim_front_in};
 
 // A thin form called on an allele of the caller's own: the local is lent for the call, and given back by value.
@@ -68,61 +70,62 @@ fn trimmed_back(mut a: Allele, mut b: Allele) -> Trimmed
     }
 }
 
-fn write(text: &[u8]) {
-    io::write_all(STDOUT_FILENO, text);
+fn write(rt: &impl Print, text: &[u8]) -> io::Result<()> {
+    rt.write_all(text)
 }
 
-fn write_number(n: usize) {
-    io::print_decimal(STDOUT_FILENO, n as u64);
+fn write_number(rt: &impl Print, n: usize) -> io::Result<()> {
+    print!(rt; "{n}")
 }
 
-fn write_none(size: usize) {
+fn write_none(rt: &impl Print, size: usize) -> io::Result<()> {
     if size == 0 {
-        write(b"no base");
+        write(rt, b"no base")?;
     }
+    Ok(())
 }
 
-fn write_first(bytes: &[u8], size: usize)
+fn write_first(rt: &impl Print, bytes: &[u8], size: usize) -> io::Result<()>
     requires { size ≤ length bytes.now }
 {
-    write(&bytes[..size]);
+    write(rt, &bytes[..size])
 }
 
 // The bases of an allele, and where its window begins.
-fn write_allele(allele: Allele)
+fn write_allele(rt: &impl Print, allele: Allele) -> io::Result<()>
     requires { Good allele }
 {
     let mut bases = [0u8; 2048];
     let head = allele.head;
     let size = allele_parts::write_out(allele, &mut bases);
-    write_none(size);
-    write_first(&bases, size);
-    write(b" from place ");
-    write_number(head);
+    write_none(rt, size)?;
+    write_first(rt, &bases, size)?;
+    write(rt, b" from place ")?;
+    write_number(rt, head)
 }
 
-fn write_trim(what: &[u8], t: Trimmed)
+fn write_trim(rt: &impl Print, what: &[u8], t: Trimmed) -> io::Result<()>
     requires { Good t.left × Good t.right }
 {
     let left = t.left;
     let right = t.right;
-    write(what);
-    write(b": ");
-    write_number(t.count);
-    write(b" off, ");
-    write_allele(left);
-    write(b" and ");
-    write_allele(right);
-    write(b"\n");
+    write(rt, what)?;
+    write(rt, b": ")?;
+    write_number(rt, t.count)?;
+    write(rt, b" off, ")?;
+    write_allele(rt, left)?;
+    write(rt, b" and ")?;
+    write_allele(rt, right)?;
+    write(rt, b"\n")
 }
 
-fn write_row(what: &[u8], allele: Allele)
+fn write_row(rt: &impl Print, what: &[u8], allele: Allele) -> io::Result<()>
     requires { Good allele }
 {
-    write(what);
-    write(b": ");
-    write_allele(allele);
-    write(b"\n");
+    write(rt, what)?;
+    write(rt, b": ")?;
+    write_allele(rt, allele)?;
+    write(rt, b"\n")
 }
 
 // An allele whose window goes round the array's end: the first two of its four bases stand in the last two places.
@@ -133,62 +136,73 @@ fn round() -> Allele
     pushed_front(Allele::filled(b"GT"), b"AC")
 }
 
-fn pushes() {
+fn pushes(rt: &impl Print) -> io::Result<()> {
     write_row(
+        rt,
         b"push_back_in of GT to AC",
         pushed_back(Allele::filled(b"AC"), b"GT"),
-    );
-    write_row(b"push_front_in of AC to GT", round());
+    )?;
+    write_row(rt, b"push_front_in of AC to GT", round())?;
     write_row(
+        rt,
         b"push_back_in of GG to ACGT, which goes round",
         pushed_back(round(), b"GG"),
-    );
+    )?;
     write_row(
+        rt,
         b"push_front_in of nothing to ACGT, which goes round",
         pushed_front(round(), b""),
-    );
+    )
 }
 
-fn keeps() {
+fn keeps(rt: &impl Print) -> io::Result<()> {
     write_row(
+        rt,
         b"keep_front_in of 3 of ACGT, which goes round",
         kept_front(round(), 3),
-    );
+    )?;
     write_row(
+        rt,
         b"keep_back_in of 3 of ACGT, which goes round",
         kept_back(round(), 3),
-    );
+    )?;
     write_row(
+        rt,
         b"keep_back_in of 1 of ACGT, which goes round",
         kept_back(round(), 1),
-    );
+    )?;
     write_row(
+        rt,
         b"keep_front_in of 0 of ACGT",
         kept_front(Allele::filled(b"ACGT"), 0),
-    );
+    )
 }
 
-fn trims() {
+fn trims(rt: &impl Print) -> io::Result<()> {
     write_trim(
+        rt,
         b"trim_front_in of ACGT, which goes round, and ACT",
         trimmed_front(round(), Allele::filled(b"ACT")),
-    );
+    )?;
     write_trim(
+        rt,
         b"trim_back_in of ACGT, which goes round, and CCGT",
         trimmed_back(round(), Allele::filled(b"CCGT")),
-    );
+    )?;
     write_trim(
+        rt,
         b"trim_front_in of ACGT and G",
         trimmed_front(Allele::filled(b"ACGT"), Allele::filled(b"G")),
-    );
+    )?;
     write_trim(
+        rt,
         b"trim_back_in of GT and GT",
         trimmed_back(Allele::filled(b"GT"), Allele::filled(b"GT")),
-    );
+    )
 }
 
-fn main() {
-    pushes();
-    keeps();
-    trims();
+fn main(rt: HostRuntime) -> io::Result<()> {
+    pushes(&rt)?;
+    keeps(&rt)?;
+    trims(&rt)
 }

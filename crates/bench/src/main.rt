@@ -1,11 +1,14 @@
 // The bench: rows on standard input, each a request, the answer that it should get, and what the row shows. A row's answer that differs is printed
 // beside the expected one. The file `stdin` has every row of 01's bench, both sides of each limit, and a row for each fault that those rows let through.
+#![tactic(auto)]
+
 mod answers;
 
 ghost use Rattle.std.specs.Prelude.{◌≡◌, ◌+◌, min, max, length};
 
 use asking::Reached;
 use decimals::Number;
+use std::io;
 use targets::File;
 
 // How many rows agree, and how many there are, each count up to 65,536.
@@ -15,8 +18,8 @@ struct Run {
     all: usize,
 }
 
-fn say(words: &[u8]) {
-    io::write_all(libc::STDOUT_FILENO, words);
+fn say(rt: &impl Print, words: &[u8]) -> io::Result<()> {
+    rt.write_all(words)
 }
 
 // What the words of a row reach, on one line.
@@ -88,7 +91,7 @@ fn put_answer(
 
 // Whether an answer is what a row expects.
 fn agrees(answer: &[u8], expected: &[u8]) -> bool {
-    let mut space = io::buffer();
+    let mut space = [0u8; 4096];
     let text: &mut [u8] = &mut space;
     let size = runs::expand(expected, b' ', text, 0);
     check::same(answer, text::part(text, 0, size))
@@ -107,47 +110,49 @@ fn room_at(row: &[u8], from: usize) -> usize {
     }
 }
 
-fn say_difference(answer: &[u8]) {
-    say(b"    DIFFERS: the answer is ");
-    say(answer);
-    say(b"\n");
+fn say_difference(rt: &impl Print, answer: &[u8]) -> io::Result<()> {
+    say(rt, b"    DIFFERS: the answer is ")?;
+    say(rt, answer)?;
+    say(rt, b"\n")
 }
 
 // Whether the answer to a row's words is the one expected; it is said where it is not.
 fn answers_as(
+    rt: &impl Print,
     asked: &[u8],
     expected: &[u8],
     reference_room: usize,
     alternative_room: usize,
-) -> bool {
-    let mut space = io::buffer();
+) -> io::Result<bool> {
+    let mut space = [0u8; 4096];
     let answer: &mut [u8] = &mut space;
     let size = put_answer(answer, asked, reference_room, alternative_room);
     let said = text::part(answer, 0, size);
     if agrees(said, expected) {
-        return true;
+        return Ok(true);
     }
-    say_difference(said);
-    false
+    say_difference(rt, said)?;
+    Ok(false)
 }
 
 // A row as the table has it: what was asked, what is expected, what it shows.
-fn say_row(asked: &[u8], expected: &[u8], shows: &[u8]) {
-    say(asked);
-    say(b"\n    ");
-    say(expected);
-    say(b"\n    ");
-    say(shows);
-    say(b"\n");
+fn say_row(rt: &impl Print, asked: &[u8], expected: &[u8], shows: &[u8]) -> io::Result<()> {
+    say(rt, asked)?;
+    say(rt, b"\n    ")?;
+    say(rt, expected)?;
+    say(rt, b"\n    ")?;
+    say(rt, shows)?;
+    say(rt, b"\n")
 }
 
 // Runs one row; whether it agrees.
-fn run_row(row: &[u8]) -> bool {
+fn run_row(rt: &impl Print, row: &[u8]) -> io::Result<bool> {
     let second = text::after(row, 0, b'|');
     let third = text::after(row, second, b'|');
     let fourth = text::after(row, third, b'|');
-    say_row(field(row, 0), field(row, second), field(row, third));
+    say_row(rt, field(row, 0), field(row, second), field(row, third))?;
     answers_as(
+        rt,
         field(row, 0),
         field(row, second),
         room_at(row, fourth),
@@ -166,51 +171,54 @@ fn raised(count: usize) -> usize
 }
 
 // Runs a line: one that is empty, or begins with #, is no row.
-fn run_line(so_far: Run, line: &[u8]) -> Run {
+fn run_line(rt: &impl Print, so_far: Run, line: &[u8]) -> io::Result<Run> {
     if line.len() == 0 {
-        return so_far;
+        return Ok(so_far);
     }
     if line[0] == b'#' {
-        return so_far;
+        return Ok(so_far);
     }
     let agreeing = so_far.agreeing;
-    Run {
+    Ok(Run {
         all: raised(so_far.all),
-        agreeing: if run_row(line) {
+        agreeing: if run_row(rt, line)? {
             raised(agreeing)
         } else {
             agreeing
         },
-    }
+    })
 }
 
-fn run_rows(rows: &[u8]) -> Run {
+fn run_rows(rt: &impl Print, rows: &[u8]) -> io::Result<Run> {
     let mut run = Run {
         agreeing: 0,
         all: 0,
     };
     let mut from = 0;
     while from < rows.len() {
-        run = run_line(run, text::part(rows, from, text::find(rows, from, b'\n')));
+        run = run_line(
+            rt,
+            run,
+            text::part(rows, from, text::find(rows, from, b'\n')),
+        )?;
         from = text::after(rows, from, b'\n');
     }
-    run
+    Ok(run)
 }
 
-fn say_run(run: Run) {
-    io::print_decimal(libc::STDOUT_FILENO, run.agreeing as u64);
-    say(b" of ");
-    io::print_decimal(libc::STDOUT_FILENO, run.all as u64);
-    say(b" rows agree\n");
+fn say_run(rt: &impl Print, run: Run) -> io::Result<()> {
+    rt.print(run.agreeing)?;
+    say(rt, b" of ")?;
+    rt.print(run.all)?;
+    say(rt, b" rows agree\n")
 }
 
-fn main() {
-    let mut space = io::large_buffer();
+fn main(rt: HostRuntime) -> io::Result<()> {
+    let mut space = [0u8; 65536];
     let rows: &mut [u8] = &mut space;
-    let size = io::read_full(libc::STDIN_FILENO, rows);
+    let size = reading::read_full(&mut rt.reader(), rows);
     if size == rows.len() {
-        say(b"The rows have more than 65535 bytes.\n");
-        return;
+        return say(&rt, b"The rows have more than 65535 bytes.\n");
     }
-    say_run(run_rows(text::part(rows, 0, size)));
+    say_run(&rt, run_rows(&rt, text::part(rows, 0, size))?)
 }

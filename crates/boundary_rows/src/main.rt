@@ -1,45 +1,47 @@
 // Runs the table rules and the pieces over the rows on standard input, and writes one line a row: what it shows and what came back. The file `stdin` has a
 // row for each table rule, each refusal of the boundary search and each side of its bounds.
+#![tactic(auto)]
+
 ghost use Rattle.std.specs.Prelude.{◌<◌};
 
 use decimals::Number;
 use definition::{Bound, Kind, PieceFound, Refusal, Zero};
 use exon_lists::Exons;
-use libc::STDOUT_FILENO;
+use std::io;
 
-fn say(words: &[u8]) {
-    io::write_all(STDOUT_FILENO, words);
+fn say(rt: &impl Print, words: &[u8]) -> io::Result<()> {
+    rt.write_all(words)
 }
 
-fn say_number(number: usize) {
-    io::print_decimal(STDOUT_FILENO, number as u64);
+fn say_number(rt: &impl Print, number: usize) -> io::Result<()> {
+    rt.print(number)
 }
 
-fn say_refusal(refusal: Refusal) {
+fn say_refusal(rt: &impl Print, refusal: Refusal) -> io::Result<()> {
     match refusal {
-        Refusal::BadTables => say(b"10 BadTables"),
-        Refusal::ExonNotFoundForStart => say(b"12 ExonNotFoundForStart"),
-        Refusal::ExonNotFoundForEnd => say(b"13 ExonNotFoundForEnd"),
-        Refusal::ExonIntronBoundary => say(b"14 ExonIntronBoundary"),
-        Refusal::UtrExonBoundary => say(b"15 UtrExonBoundary"),
-        _ => say(b"of another row"),
+        Refusal::BadTables => say(rt, b"10 BadTables"),
+        Refusal::ExonNotFoundForStart => say(rt, b"12 ExonNotFoundForStart"),
+        Refusal::ExonNotFoundForEnd => say(rt, b"13 ExonNotFoundForEnd"),
+        Refusal::ExonIntronBoundary => say(rt, b"14 ExonIntronBoundary"),
+        Refusal::UtrExonBoundary => say(rt, b"15 UtrExonBoundary"),
+        _ => say(rt, b"of another row"),
     }
 }
 
-fn say_found(found: PieceFound) {
+fn say_found(rt: &impl Print, found: PieceFound) -> io::Result<()> {
     match found {
         PieceFound::InPiece(piece) => {
-            say(b": piece ");
-            say_number(piece.left.0);
-            say(b"..");
-            say_number(piece.right.0);
+            say(rt, b": piece ")?;
+            say_number(rt, piece.left.0)?;
+            say(rt, b"..")?;
+            say_number(rt, piece.right.0)?;
         }
         PieceFound::NoPiece(refusal) => {
-            say(b": refusal ");
-            say_refusal(refusal);
+            say(rt, b": refusal ")?;
+            say_refusal(rt, refusal)?;
         }
     }
-    say(b"\n");
+    say(rt, b"\n")
 }
 
 // Row 10 where a transcript's tables break a rule, else the piece of the range.
@@ -119,54 +121,60 @@ fn fill_table(exons: &[u8], table: &mut [u8]) -> usize {
 }
 
 // What a row's range comes to over a table.
-fn say_piece(row: &[u8], table: &[u8]) {
+fn say_piece(rt: &impl Print, row: &[u8], table: &[u8]) -> io::Result<()> {
     let start = number_or(field(row, 7), 0);
     let end = number_or(field(row, 8), 0);
     if end <= start {
-        say(b": no range\n");
-        return;
+        return say(rt, b": no range\n");
     }
-    say_found(found_for(
-        kind_in(field(row, 1)),
-        table,
-        bound_in(field(row, 4)),
-        bound_in(field(row, 5)),
-        number_or(field(row, 6), 0),
-        Zero(start),
-        Zero(end),
-    ));
+    say_found(
+        rt,
+        found_for(
+            kind_in(field(row, 1)),
+            table,
+            bound_in(field(row, 4)),
+            bound_in(field(row, 5)),
+            number_or(field(row, 6), 0),
+            Zero(start),
+            Zero(end),
+        ),
+    )
 }
 
 // Runs a line: one that is empty, or begins with #, is no row.
-fn run_line(line: &[u8]) {
+fn run_line(rt: &impl Print, line: &[u8]) -> io::Result<()> {
     if line.len() == 0 {
-        return;
+        return Ok(());
     }
     if line[0] == b'#' {
-        return;
+        return Ok(());
     }
     let mut space = [0u8; 4104];
     let table: &mut [u8] = &mut space;
     let size = fill_table(field(line, 2), table);
-    say(field(line, 0));
-    say_piece(line, text::part(table, 0, number_or(field(line, 3), size)));
+    say(rt, field(line, 0))?;
+    say_piece(
+        rt,
+        line,
+        text::part(table, 0, number_or(field(line, 3), size)),
+    )
 }
 
-fn run_rows(rows: &[u8]) {
+fn run_rows(rt: &impl Print, rows: &[u8]) -> io::Result<()> {
     let mut from = 0;
     while from < rows.len() {
-        run_line(text::part(rows, from, text::find(rows, from, b'\n')));
+        run_line(rt, text::part(rows, from, text::find(rows, from, b'\n')))?;
         from = text::after(rows, from, b'\n');
     }
+    Ok(())
 }
 
-fn main() {
-    let mut space = io::large_buffer();
+fn main(rt: HostRuntime) -> io::Result<()> {
+    let mut space = [0u8; 65536];
     let rows: &mut [u8] = &mut space;
-    let size = io::read_full(libc::STDIN_FILENO, rows);
+    let size = reading::read_full(&mut rt.reader(), rows);
     if size == rows.len() {
-        say(b"The rows have more than 65535 bytes.\n");
-        return;
+        return say(&rt, b"The rows have more than 65535 bytes.\n");
     }
-    run_rows(text::part(rows, 0, size));
+    run_rows(&rt, text::part(rows, 0, size))
 }

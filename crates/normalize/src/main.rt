@@ -1,4 +1,6 @@
 // The tool that a person runs: one change in, its normal form out. Without arguments it answers two examples.
+#![tactic(auto)]
+
 mod advice;
 mod paths;
 mod usage;
@@ -8,6 +10,10 @@ ghost use Rattle.std.specs.Prelude.{◌≡◌, length};
 use asking::Reached;
 use definition::{Answered, Outcome};
 use problems::Problem;
+use std::env::FillError;
+use std::io::Read;
+use std::rt::{Env, Files};
+use std::{fs, io, str};
 use targets::File;
 
 // What gathering the arguments came to: words, each ended by a byte 0.
@@ -17,60 +23,58 @@ enum Gathered {
     TooLong,
 }
 
-// Puts an argument, and the byte 0 that ends it, into a text from an index on.
-fn put_argument(index: usize, text: &mut [u8], at: usize) -> Gathered {
+// Puts an argument, and the byte 0 that ends it, into a text from an index on; the index behind both.
+fn put_argument(
+    rt: &impl Env,
+    index: usize,
+    text: &mut [u8],
+    at: usize,
+) -> Result<usize, FillError> {
     if text.len() < at {
-        return Gathered::TooLong;
+        return Err(FillError::TooLong);
     }
-    let size = os::arg(index, &mut text[at..]);
-    if os::errno() != 0 {
-        return Gathered::TooLong;
-    }
+    let size = rt.arg(index, &mut text[at..])?;
     if text.len() - at <= size {
-        return Gathered::TooLong;
+        return Err(FillError::TooLong);
     }
     let end = at + size;
     text[end] = 0;
-    Gathered::Words(end + 1)
+    Ok(end + 1)
 }
 
 // Every argument but the program's own name.
-fn gather(text: &mut [u8]) -> Gathered {
-    let count = os::arg_count();
+fn gather(rt: &impl Env, text: &mut [u8]) -> Gathered {
     let mut size = 0;
-    let mut i = 1;
-    while i < count {
-        match put_argument(i, text, size) {
-            Gathered::Words(next) => size = next,
-            Gathered::TooLong => return Gathered::TooLong,
+    for i in 1..usize::MAX {
+        match put_argument(rt, i, text, size) {
+            Ok(next) => size = next,
+            Err(FillError::NotPresent) => break,
+            Err(FillError::TooLong) => return Gathered::TooLong,
         }
-        i += 1;
     }
     Gathered::Words(size)
 }
 
-// What is left of a file after its first bytes: a byte more where it is too long, a number below 0 where it can't be read.
-fn rest_of(file: i32) -> isize {
+// What is left of a file after its first bytes: a byte more where it is too long, an error where it can't be read.
+fn rest_of(file: &mut impl Read) -> io::Result<usize> {
     let mut byte = [0u8; 1];
-    libc::read(file, &mut byte)
+    file.read(&mut byte)
 }
 
 // The bytes of the file at a path, at the front of those that are lent. No path is that of no file.
-fn read_file(path: &[u8], bytes: &mut [u8]) -> File {
-    let file = os::open_read(path);
-    if file < 0 {
+fn read_file(rt: &impl Files, path: &[u8], bytes: &mut [u8]) -> File {
+    let Ok(path) = str::from_utf8(path) else {
         return File::Unreadable;
-    }
-    let size = io::read_full(file, bytes);
-    let rest = rest_of(file);
-    libc::close(file);
-    if rest < 0 {
+    };
+    let Ok(mut file) = fs::open(rt, path) else {
         return File::Unreadable;
+    };
+    let size = reading::read_full(&mut file, bytes);
+    match rest_of(&mut file) {
+        Ok(0) => File::Read(size),
+        Ok(_) => File::TooLong,
+        Err(_) => File::Unreadable,
     }
-    if 0 < rest {
-        return File::TooLong;
-    }
-    File::Read(size)
 }
 
 fn put_class_line(page: &mut [u8], used: usize, answer: Answered) -> usize {
@@ -198,13 +202,13 @@ fn file_room() -> [u8; 262144]
 }
 
 // What is said to words: the examples where there is none. A file that they name may have 262,144 bytes.
-fn put_reply(page: &mut [u8], text: &[u8]) -> usize {
+fn put_reply(rt: &impl Files, page: &mut [u8], text: &[u8]) -> usize {
     if text.len() == 0 {
         return put_examples(page);
     }
     let mut space = file_room();
     let bytes: &mut [u8] = &mut space;
-    let file = read_file(paths::path_of(text), bytes);
+    let file = read_file(rt, paths::path_of(text), bytes);
     let reached = put_reached(page, 0, text, file, bytes);
     terminal::put_byte(page, reached, b'\n')
 }
@@ -217,11 +221,11 @@ fn words_room() -> [u8; 131072]
 }
 
 // What is said to the arguments.
-fn put_all(page: &mut [u8]) -> usize {
+fn put_all(rt: &(impl Env + Files), page: &mut [u8]) -> usize {
     let mut space = words_room();
     let text: &mut [u8] = &mut space;
-    match gather(text) {
-        Gathered::Words(size) => put_reply(page, text::part(text, 0, size)),
+    match gather(rt, text) {
+        Gathered::Words(size) => put_reply(rt, page, text::part(text, 0, size)),
         Gathered::TooLong => terminal::put(
             page,
             0,
@@ -237,9 +241,9 @@ fn page_room() -> [u8; 135168]
     [0; 135168]
 }
 
-fn main() {
+fn main(rt: HostRuntime) -> io::Result<()> {
     let mut space = page_room();
     let page: &mut [u8] = &mut space;
-    let used = put_all(page);
-    io::write_all(libc::STDOUT_FILENO, text::part(page, 0, used));
+    let used = put_all(&rt, page);
+    rt.write_all(text::part(page, 0, used))
 }

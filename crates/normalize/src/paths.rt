@@ -5,6 +5,7 @@ ghost use Rattle.normalize.specs.Paths.{path_of};
 use requests::Asked;
 
 // The path of the file that words name: empty where they name none.
+#[tactic(auto, unfolding(crate::specs::Paths::path_of))]
 pub(crate) fn path_of(text: &[u8]) -> &[u8]
     ensures { result.now ≡ path_of text.now }
 {

@@ -18,13 +18,13 @@ unfolding filled
 filled-length = length-replicate {A = ℕ} answer_room 46
 
 module _ (allele : List ℕ) where
-  pub within-allele : (i : ℕ) → i < length allele → get_or allele i 0 ≡ get_or (written allele filled) i 0
+  pub within_allele : (i : ℕ) → i < length allele → get_or allele i 0 ≡ get_or (written allele filled) i 0
   unfolding written
-  within-allele i h = sym (get_or-append allele (drop (length allele) filled) 0 i h)
+  within_allele i h = sym (get_or-append allele (drop (length allele) filled) 0 i h)
 
-  pub behind-allele : (i : ℕ) → length allele ≤ i → i < answer_room → 46 ≡ get_or (written allele filled) i 0
+  pub behind_allele : (i : ℕ) → length allele ≤ i → i < answer_room → 46 ≡ get_or (written allele filled) i 0
   unfolding written filled
-  behind-allele i h k =
+  behind_allele i h k =
       let split : length allele + (i - length allele) ≡ i = omega arith in
       let at = get_or-append-add allele (drop (length allele) filled) (i - length allele) 0 ∙ get_or-drop (length allele) filled (i - length allele) 0 in
       sym ((rw split at at) ∙ get_or-replicate answer_room i 46 0 k)

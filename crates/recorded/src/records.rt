@@ -9,7 +9,7 @@ use little_endian::number_at;
 pub const MOST: usize = 524288;
 
 // The bytes of a file from one place up to another; `whole` is false where the file ends before them.
-#[derive(Drop)]
+#[derive(Clone, Copy)]
 pub struct Part {
     pub whole: bool,
     pub from: usize,
@@ -17,7 +17,7 @@ pub struct Part {
 }
 
 // The numbers of a request.
-#[derive(Drop)]
+#[derive(Clone, Copy)]
 pub struct Numbers {
     pub kind: u32,
     pub cds_start: i64,
@@ -30,7 +30,7 @@ pub struct Numbers {
 }
 
 // The request of a record, and the place behind it.
-#[derive(Drop)]
+#[derive(Clone, Copy)]
 pub struct Request {
     pub whole: bool,
     pub target: Part,
@@ -41,7 +41,7 @@ pub struct Request {
 }
 
 // The answer of a record, and the place behind it.
-#[derive(Drop)]
+#[derive(Clone, Copy)]
 pub struct Stored {
     pub whole: bool,
     pub refusal: u32,
@@ -55,6 +55,7 @@ pub struct Stored {
 }
 
 // The number at a place; 0 where the file ends before it does.
+#[tactic(auto, unfolding(crate::specs::Format::stored_number))]
 pub fn number(file: &[u8], at: usize) -> u32
     ensures { result ≡ stored_number file.now at }
 {
@@ -68,6 +69,7 @@ pub fn number(file: &[u8], at: usize) -> u32
 }
 
 // The number that four bytes spell, with a sign.
+#[tactic(auto, unfolding(crate::specs::Format::signed_at))]
 fn signed_at(file: &[u8], at: usize) -> i32
     ensures { result ≡ signed_at file.now at }
 {
@@ -79,6 +81,7 @@ fn signed_at(file: &[u8], at: usize) -> i32
 }
 
 // The number that eight bytes spell, with a sign.
+#[tactic(auto, unfolding(crate::specs::Format::signed_long_at))]
 fn signed_long_at(file: &[u8], at: usize) -> i64
     requires { at ≤ 524296 }
     ensures { result ≡ signed_long_at file.now at }
@@ -91,6 +94,7 @@ fn signed_long_at(file: &[u8], at: usize) -> i64
 }
 
 // The part whose length stands at a place.
+#[tactic(auto, unfolding(crate::specs::Format::part_at, crate::specs::Format::stored_number))]
 fn part_at(file: &[u8], at: usize) -> Part
     requires { length file.now ≤ 524288 }
     ensures value { result ≡ part_at file.now at }
@@ -135,6 +139,7 @@ fn numbers_at(file: &[u8], target_to: usize, exons_to: usize, alternative_to: us
 }
 
 // The request at a place of a file.
+#[tactic(auto, unfolding(crate::specs::Format::request_at))]
 pub fn request_at(file: &[u8], at: usize) -> Request
     requires { length file.now ≤ 524288 }
     ensures value { result ≡ request_at file.now at }
@@ -154,6 +159,7 @@ pub fn request_at(file: &[u8], at: usize) -> Request
 }
 
 // The stored answer at a place of a file. It is whole only where its last part is.
+#[tactic(auto, unfolding(crate::specs::Format::stored_at))]
 pub fn stored_at(file: &[u8], at: usize) -> Stored
     requires { (length file.now ≤ 524288) × (at ≤ 524296) }
     ensures value { result ≡ stored_at file.now at }

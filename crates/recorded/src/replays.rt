@@ -12,7 +12,7 @@ use replies::Answer;
 const FILL: u8 = b'.';
 
 // The refusal and the class that were answered, and whether both, the range, the probes and both alleles are the stored ones.
-#[derive(Drop)]
+#[derive(Clone, Copy)]
 pub struct Compared {
     pub refusal: u32,
     pub class: u32,
@@ -32,6 +32,7 @@ fn bytes_of<'a>(file: &'a [u8], part: Part) -> &'a [u8]
 }
 
 // The byte at a place of a buffer that holds an allele, and behind it what filled the buffer.
+#[tactic(auto, using(crate::proofs::Held::within_allele, crate::proofs::Held::behind_allele))]
 fn held_at(allele: &[u8], i: usize) -> u8
     requires { i < answer_room }
     ensures { result ≡ get_or (written allele.now filled) i 0 }
