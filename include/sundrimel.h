@@ -1,4 +1,4 @@
-/* The exported entry of Sundrimel, for a C program. Link target/staticlib/libsundrimel.a, which `rt staticlib sundrimel` writes.
+/* The exported entry of Sundrimel, for a C program. Link target/staticlib/libsundrimel.a, which `sh tools/archive.sh` writes.
  * A slice is a pointer and a length in bytes; a length of 0 needs a pointer that is not null. */
 #ifndef SUNDRIMEL_H
 #define SUNDRIMEL_H

@@ -1,9 +1,9 @@
 #!/bin/sh
 # Runs the tool with many lists of arguments, and compares what it prints with tests/tool.expected, where a line == NAME begins what the case
-# NAME prints. Says how many cases passed; exits 1 on a difference, naming the case. TOOL names another program to run than target/bin/normalize.
+# NAME prints. Says how many cases passed; exits 1 on a difference, naming the case. TOOL names another program to run than crates/normalize/out/normalize.
 set -eu
 cd "$(dirname "$0")/.."
-tool=${TOOL:-target/bin/normalize}
+tool=${TOOL:-crates/normalize/out/normalize}
 expected=tests/tool.expected
 work=$(mktemp -d)
 trap 'rm -rf "$work"' EXIT

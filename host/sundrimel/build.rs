@@ -15,7 +15,7 @@ fn main() {
     println!("cargo::rerun-if-changed={}", archive.display());
     if !archive.is_file() {
         println!(
-            "cargo::error=there is no {}: run `rt staticlib sundrimel` in the repository's root, \
+            "cargo::error=there is no {}: run `sh tools/archive.sh` in the repository's root, \
              or set {VARIABLE} to the folder that holds libsundrimel.a",
             archive.display()
         );
