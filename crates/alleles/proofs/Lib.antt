@@ -1,1 +1,14 @@
 pub mod Unique
+pub mod Parts
+pub mod AllelePartsUnique
+pub mod Trims
+pub mod AlleleTrimsUnique
+pub mod AllelesInPlaceUnique
+pub mod EndsLaws
+pub mod EndsUnique
+pub mod Copies
+pub mod Laws
+pub mod Stores
+pub mod RotatingUnique
+pub mod RotatingOutUnique
+pub mod TrimsInPlaceUnique

@@ -4,7 +4,7 @@
 use Prim.Native.Nat.{ℕ}
 use mathlib.Core.Path.{◌≡◌}
 use mathlib.Core.List.{List}
-use Rattle.rotating.proofs.Unique.{equal}
+use Rattle.alleles.proofs.RotatingUnique.{equal}
 use Rattle.alleles.specs.declared.Allele.{Allele}
 use Rattle.alleles.specs.Held.{held, Holds}
 
@@ -14,7 +14,7 @@ pub record Alike (x y : Allele) : Type 0 where
   pub count : x.count ≡ y.count
   pub bases : held x ≡ held y
 
--- `Allele::empty`, `filled`, `push_back` and `push_front` ensure `Holds`
+-- `Allele::empty`, `filled`, `fill`, `append`, `prepend`, `narrow`, `push_back` and `push_front` ensure `Holds`
 pub holds-alike : {x y : Allele} {place size : ℕ} {list : List ℕ} → Holds x place size list → Holds y place size list → Alike x y
 holds-alike p q =
     record { head = equal p.head q.head; count = equal p.count q.count; bases = equal p.bases q.bases }

@@ -1,6 +1,6 @@
 -- What an allele's buffer holds, from its head round. Assumes nothing.
 use Rattle.std.specs.Prelude.{ℕ, ◌≡◌, List}
-use Rattle.rotating.specs.Window.{window, Placed}
+use Rattle.alleles.specs.Window.{window, Placed}
 use Rattle.alleles.specs.declared.Allele.{Allele}
 
 -- the bases of an allele

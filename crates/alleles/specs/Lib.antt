@@ -1,1 +1,5 @@
 pub mod Held
+pub mod WrittenOut
+pub mod Trims
+pub mod Window
+pub mod Rests

@@ -4,13 +4,13 @@
 
 ghost use Rattle.std.specs.Prelude.{◌+◌, ◌-◌, ◌%◌, ◌≤◌, ◌≡◌, ◌++◌, length, take, drop};
 ghost use Rattle.alleles.specs.Held.{held, Good, Holds};
-ghost use Rattle.allele_trims.specs.Trims.{TrimmedFront, TrimmedBack};
+ghost use Rattle.alleles.specs.Trims.{TrimmedFront, TrimmedBack};
 
-use allele_trims::Trimmed;
-use alleles::Allele;
-use alleles_in_place::{keep_back_in, keep_front_in, push_back_in, push_front_in};
+use alleles::allele_trims::Trimmed;
+use alleles::alleles_in_place::{keep_back_in, keep_front_in, push_back_in, push_front_in};
+use alleles::trims_in_place::{trim_back_in, trim_front_in};
+use alleles::{Allele, allele_parts};
 use std::io;
-use trims_in_place::{trim_back_in, trim_front_in};
 
 // A thin form called on an allele of the caller's own: the local is lent for the call, and given back by value.
 fn pushed_back(mut allele: Allele, part: &[u8]) -> Allele
@@ -70,27 +70,6 @@ fn trimmed_back(mut a: Allele, mut b: Allele) -> Trimmed
     }
 }
 
-fn write(rt: &impl Print, text: &[u8]) -> io::Result<()> {
-    rt.write_all(text)
-}
-
-fn write_number(rt: &impl Print, n: usize) -> io::Result<()> {
-    print!(rt; "{n}")
-}
-
-fn write_none(rt: &impl Print, size: usize) -> io::Result<()> {
-    if size == 0 {
-        write(rt, b"no base")?;
-    }
-    Ok(())
-}
-
-fn write_first(rt: &impl Print, bytes: &[u8], size: usize) -> io::Result<()>
-    requires { size ≤ length bytes.now }
-{
-    write(rt, &bytes[..size])
-}
-
 // The bases of an allele, and where its window begins.
 fn write_allele(rt: &impl Print, allele: Allele) -> io::Result<()>
     requires { Good allele }
@@ -98,34 +77,29 @@ fn write_allele(rt: &impl Print, allele: Allele) -> io::Result<()>
     let mut bases = [0u8; 2048];
     let head = allele.head;
     let size = allele_parts::write_out(allele, &mut bases);
-    write_none(rt, size)?;
-    write_first(rt, &bases, size)?;
-    write(rt, b" from place ")?;
-    write_number(rt, head)
+    if size == 0 {
+        print!(rt; "no base")?;
+    }
+    rt.write_all(&bases[..size])?;
+    print!(rt; " from place {head}")
 }
 
-fn write_trim(rt: &impl Print, what: &[u8], t: Trimmed) -> io::Result<()>
-    requires { Good t.left × Good t.right }
+fn write_trim(rt: &impl Print, what: &str, trimmed: Trimmed) -> io::Result<()>
+    requires { Good trimmed.left × Good trimmed.right }
 {
-    let left = t.left;
-    let right = t.right;
-    write(rt, what)?;
-    write(rt, b": ")?;
-    write_number(rt, t.count)?;
-    write(rt, b" off, ")?;
-    write_allele(rt, left)?;
-    write(rt, b" and ")?;
-    write_allele(rt, right)?;
-    write(rt, b"\n")
+    print!(rt; "{what}: {} off, ", trimmed.count)?;
+    write_allele(rt, trimmed.left)?;
+    print!(rt; " and ")?;
+    write_allele(rt, trimmed.right)?;
+    println!(rt;)
 }
 
-fn write_row(rt: &impl Print, what: &[u8], allele: Allele) -> io::Result<()>
+fn write_row(rt: &impl Print, what: &str, allele: Allele) -> io::Result<()>
     requires { Good allele }
 {
-    write(rt, what)?;
-    write(rt, b": ")?;
+    print!(rt; "{what}: ")?;
     write_allele(rt, allele)?;
-    write(rt, b"\n")
+    println!(rt;)
 }
 
 // An allele whose window goes round the array's end: the first two of its four bases stand in the last two places.
@@ -139,18 +113,18 @@ fn round() -> Allele
 fn pushes(rt: &impl Print) -> io::Result<()> {
     write_row(
         rt,
-        b"push_back_in of GT to AC",
+        "push_back_in of GT to AC",
         pushed_back(Allele::filled(b"AC"), b"GT"),
     )?;
-    write_row(rt, b"push_front_in of AC to GT", round())?;
+    write_row(rt, "push_front_in of AC to GT", round())?;
     write_row(
         rt,
-        b"push_back_in of GG to ACGT, which goes round",
+        "push_back_in of GG to ACGT, which goes round",
         pushed_back(round(), b"GG"),
     )?;
     write_row(
         rt,
-        b"push_front_in of nothing to ACGT, which goes round",
+        "push_front_in of nothing to ACGT, which goes round",
         pushed_front(round(), b""),
     )
 }
@@ -158,22 +132,22 @@ fn pushes(rt: &impl Print) -> io::Result<()> {
 fn keeps(rt: &impl Print) -> io::Result<()> {
     write_row(
         rt,
-        b"keep_front_in of 3 of ACGT, which goes round",
+        "keep_front_in of 3 of ACGT, which goes round",
         kept_front(round(), 3),
     )?;
     write_row(
         rt,
-        b"keep_back_in of 3 of ACGT, which goes round",
+        "keep_back_in of 3 of ACGT, which goes round",
         kept_back(round(), 3),
     )?;
     write_row(
         rt,
-        b"keep_back_in of 1 of ACGT, which goes round",
+        "keep_back_in of 1 of ACGT, which goes round",
         kept_back(round(), 1),
     )?;
     write_row(
         rt,
-        b"keep_front_in of 0 of ACGT",
+        "keep_front_in of 0 of ACGT",
         kept_front(Allele::filled(b"ACGT"), 0),
     )
 }
@@ -181,22 +155,22 @@ fn keeps(rt: &impl Print) -> io::Result<()> {
 fn trims(rt: &impl Print) -> io::Result<()> {
     write_trim(
         rt,
-        b"trim_front_in of ACGT, which goes round, and ACT",
+        "trim_front_in of ACGT, which goes round, and ACT",
         trimmed_front(round(), Allele::filled(b"ACT")),
     )?;
     write_trim(
         rt,
-        b"trim_back_in of ACGT, which goes round, and CCGT",
+        "trim_back_in of ACGT, which goes round, and CCGT",
         trimmed_back(round(), Allele::filled(b"CCGT")),
     )?;
     write_trim(
         rt,
-        b"trim_front_in of ACGT and G",
+        "trim_front_in of ACGT and G",
         trimmed_front(Allele::filled(b"ACGT"), Allele::filled(b"G")),
     )?;
     write_trim(
         rt,
-        b"trim_back_in of GT and GT",
+        "trim_back_in of GT and GT",
         trimmed_back(Allele::filled(b"GT"), Allele::filled(b"GT")),
     )
 }

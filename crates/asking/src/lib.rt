@@ -2,74 +2,54 @@
 // caller, who lends its bytes.
 #![tactic(auto)]
 
+pub mod decimals;
+pub mod exon_lists;
 mod handing;
+pub mod letters;
+pub mod lines;
+pub mod problems;
+pub mod reading;
+pub mod refusals;
+pub mod requests;
+pub mod runs;
+pub mod targets;
+pub mod terminal;
+pub mod text;
+pub mod values;
 
-ghost use Rattle.std.specs.Prelude.{◌≡◌, length};
+ghost use Rattle.std.specs.Prelude.{length};
 ghost use Rattle.asking.specs.Reached.{Answers, on_words};
+ghost use Rattle.asking.specs.Sources.{bytes_of};
 
+use crate::problems::{Problem, Unread};
 use definition::Outcome;
-use problems::Problem;
-use requests::{Asked, Interval};
-use targets::{File, Target};
 
-// What words reach.
-#[derive(Drop)]
-pub enum Reached {
-    Outcome(Outcome),
-    Problem(Problem),
-}
-
-// Room for the letters of a target. Its caller knows its length alone: with 65,536 zeros in sight the proof of that takes a second more.
-fn target_room() -> [u8; 65536]
-    ensures { length result ≡ 65536 }
-{
-    [0; 65536]
-}
-
-// The outcome of the request that words make, where the file that they name is read so.
+/// The outcome of the request that words make, each ended by a byte 0, or why they make none. `file` has the bytes of the file that they name, or why it
+/// isn't read. The alleles of an answer stand at the front of both buffers; a problem leaves both as they were.
 pub fn ask(
     text: &[u8],
-    file: File,
-    bytes: &[u8],
+    file: Result<&[u8], Unread>,
     reference_out: &mut [u8],
     alternative_out: &mut [u8],
-) -> Reached
+) -> Result<Outcome, Problem>
     ensures { Answers
-        (on_words text.now file bytes.now
+        (on_words text.now (bytes_of file.entry)
         (length reference_out.old) (length alternative_out.old))
         result reference_out.old reference_out.new alternative_out.old alternative_out.new }
 {
-    match requests::request_of(text) {
-        Asked::Broken(fault, at) => Reached::Problem(Problem::Wrong(fault, at)),
-        Asked::Whole(request) => {
-            if request.codes.edit == requests::NO_EDIT {
-                return Reached::Problem(Problem::NoEdit);
-            }
-            let range = request.range;
-            let Interval::Between(start, end) = range else {
-                return Reached::Problem(Problem::NoRange);
-            };
-            let mut target = target_room();
-            let letters = match targets::read(
-                text,
-                request.words.target,
-                request.words.file,
-                file,
-                bytes,
-                &mut target,
-            ) {
-                Target::Letters(size) => size,
-                Target::Unread(unread) => return Reached::Problem(Problem::Unread(unread)),
-            };
-            handing::hand(
-                text,
-                request,
-                start,
-                end,
-                text::part(&target, 0, letters),
-                reference_out,
-                alternative_out,
-            )
-        }
-    }
+    let request = requests::request_of(text)?;
+    let edit = request.codes.edit.ok_or(Problem::NoEdit)?;
+    let range = request.range.ok_or(Problem::NoRange)?;
+    let mut target = text::room::<65536>();
+    let words = request.words;
+    let size = targets::read(text, words.target, words.file, file, &mut target)?;
+    handing::hand(
+        text,
+        request,
+        edit,
+        range,
+        text::part(&target, 0, size),
+        reference_out,
+        alternative_out,
+    )
 }

@@ -1,11 +1,11 @@
 -- What came back of a request, in words. Assumes nothing.
 use Rattle.std.specs.Prelude.{ℕ, List, ◌∷◌, ◌++◌}
 use Rattle.definition.specs.declared.Answered.{Answered}
-use Rattle.definition.specs.declared.Outcome.{Outcome}
-use Rattle.definition.specs.declared.Outcome.TheVariants.{Answer, Refuse}
-use Rattle.digits.specs.Digits.{decimal_text}
-use Rattle.values.specs.Values.{class_name, range_text, allele_text}
-use Rattle.refusals.specs.Refusals.{refusal_text}
+use Rattle.asking.specs.Digits.{decimal_text}
+use Rattle.asking.specs.Values.{class_name, range_text, allele_text}
+use Rattle.asking.specs.Refusals.{refusal_text}
+use Rattle.definition.specs.declared.Refusal.{Refusal}
+use Rattle.std.specs.Prelude.{Err, Ok, Result}
 
 -- both alleles, a space before each
 abbrev pub alleles_text : Answered → List ℕ → List ℕ → List ℕ
@@ -21,6 +21,6 @@ answer_text answer reference alternative =
     ++ 32 ∷ decimal_text answer.probes
 
 -- an outcome on one line
-abbrev pub outcome_text : Outcome → List ℕ → List ℕ → List ℕ
-outcome_text (Answer answer) reference alternative = answer_text answer reference alternative
-outcome_text (Refuse refusal) reference alternative = refusal_text refusal
+abbrev pub outcome_text : Result Answered Refusal → List ℕ → List ℕ → List ℕ
+outcome_text (Ok answer) reference alternative = answer_text answer reference alternative
+outcome_text (Err refusal) reference alternative = refusal_text refusal

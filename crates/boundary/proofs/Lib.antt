@@ -1,1 +1,4 @@
 pub mod Unique
+pub mod CutsUnique
+pub mod Within
+pub mod PiecesUnique

@@ -1,35 +1,36 @@
-// The piece of a range on a transcript, rows 12 to 15: the exon that holds it, cut at the CDS bounds.
+// The piece of a range on a transcript: the exon that holds it, cut at the CDS bounds.
 #![tactic(auto)]
+
+pub mod cuts;
+pub mod pieces;
 
 ghost use Rattle.std.specs.Prelude.{◌≡◌, true, ◌<◌};
 ghost use Rattle.definition.specs.Piece.{exons_in, exons_in_order, pieces_of, exon_piece, transcript_piece};
 
-use definition::{Bound, ExonFound, Piece, PieceFound, Refusal, Zero};
-use search::exon_holding;
+use definition::{Bound, Exon, Piece, Refusal, Zero};
+use tables::exons::Exons;
 
-// Rows 12 to 14: the exon of the first base and that of the last make a piece if they are one exon.
+// The exon of the first base and that of the last make a piece if they are one exon.
 #[tactic(auto, unfolding(definition::specs::Piece::exon_piece))]
-fn exon_piece(first: ExonFound, last: ExonFound) -> PieceFound
+fn exon_piece(first: Option<Exon>, last: Option<Exon>) -> Result<Piece, Refusal>
     ensures { result ≡ exon_piece first last }
 {
-    let ExonFound::Holding(x) = first else {
-        return PieceFound::NoPiece(Refusal::ExonNotFoundForStart);
-    };
-    let ExonFound::Holding(y) = last else {
-        return PieceFound::NoPiece(Refusal::ExonNotFoundForEnd);
-    };
-    if x.start.0 != y.start.0 {
-        return PieceFound::NoPiece(Refusal::ExonIntronBoundary);
+    let first = first.ok_or(Refusal::ExonNotFoundForStart)?;
+    let last = last.ok_or(Refusal::ExonNotFoundForEnd)?;
+    if first != last {
+        return Err(Refusal::ExonIntronBoundary);
     }
-    if x.end.0 != y.end.0 {
-        return PieceFound::NoPiece(Refusal::ExonIntronBoundary);
-    }
-    let left = x.start;
-    let right = x.end;
-    PieceFound::InPiece(Piece { left, right })
+    Ok(Piece {
+        left: first.start,
+        right: first.end,
+    })
 }
 
-// Rows 12 to 15: the exon that holds the range, cut on the range's side of CDS start, then of CDS end.
+/// The exon that holds the range from `start` up to `end`, cut on the range's side of CDS start, then of CDS end.
+///
+/// # Errors
+/// `ExonNotFoundForStart` and `ExonNotFoundForEnd` where no exon holds the range's first or last base, `ExonIntronBoundary` where two exons do,
+/// `UtrExonBoundary` where the range has bases on both sides of a bound.
 #[tactic(auto, unfolding(definition::specs::Piece::transcript_piece, definition::specs::Piece::pieces_of))]
 pub fn get_boundary(
     table: &[u8],
@@ -37,14 +38,13 @@ pub fn get_boundary(
     cds_end: Bound,
     start: Zero,
     end: Zero,
-) -> PieceFound
+) -> Result<Piece, Refusal>
     requires { (start.0 < end.0) × (exons_in_order 0 (exons_in table.now) ≡ true) }
     ensures { result ≡ transcript_piece (pieces_of table.now) cds_start cds_end start.0 end.0 }
 {
-    let first = exon_holding(table, start);
+    let exons = Exons::of(table);
     let last_base = end.0 - 1;
-    let last = exon_holding(table, Zero(last_base));
-    let exon = exon_piece(first, last);
+    let exon = exon_piece(exons.holding(start), exons.holding(Zero(last_base)));
     let cut = cuts::cut_at(cds_start, start, end, exon);
     cuts::cut_at(cds_end, start, end, cut)
 }

@@ -4,44 +4,28 @@
 
 ghost use Rattle.std.specs.Prelude.{◌<◌};
 
-use decimals::Number;
-use definition::{Bound, Kind, PieceFound, Refusal, Zero};
-use exon_lists::Exons;
+use asking::{decimals, exon_lists, reading, text};
+use boundary::pieces;
+use definition::{Bound, Kind, Piece, Refusal, Zero};
 use std::io;
 
-fn say(rt: &impl Print, words: &[u8]) -> io::Result<()> {
-    rt.write_all(words)
-}
-
-fn say_number(rt: &impl Print, number: usize) -> io::Result<()> {
-    rt.print(number)
-}
-
-fn say_refusal(rt: &impl Print, refusal: Refusal) -> io::Result<()> {
+// The number and the name of a refusal that a row may show.
+fn titled(refusal: Refusal) -> &'static str {
     match refusal {
-        Refusal::BadTables => say(rt, b"10 BadTables"),
-        Refusal::ExonNotFoundForStart => say(rt, b"12 ExonNotFoundForStart"),
-        Refusal::ExonNotFoundForEnd => say(rt, b"13 ExonNotFoundForEnd"),
-        Refusal::ExonIntronBoundary => say(rt, b"14 ExonIntronBoundary"),
-        Refusal::UtrExonBoundary => say(rt, b"15 UtrExonBoundary"),
-        _ => say(rt, b"of another row"),
+        Refusal::BadTables => "10 BadTables",
+        Refusal::ExonNotFoundForStart => "12 ExonNotFoundForStart",
+        Refusal::ExonNotFoundForEnd => "13 ExonNotFoundForEnd",
+        Refusal::ExonIntronBoundary => "14 ExonIntronBoundary",
+        Refusal::UtrExonBoundary => "15 UtrExonBoundary",
+        _ => "of another row",
     }
 }
 
-fn say_found(rt: &impl Print, found: PieceFound) -> io::Result<()> {
+fn say_found(rt: &impl Print, found: Result<Piece, Refusal>) -> io::Result<()> {
     match found {
-        PieceFound::InPiece(piece) => {
-            say(rt, b": piece ")?;
-            say_number(rt, piece.left.0)?;
-            say(rt, b"..")?;
-            say_number(rt, piece.right.0)?;
-        }
-        PieceFound::NoPiece(refusal) => {
-            say(rt, b": refusal ")?;
-            say_refusal(rt, refusal)?;
-        }
+        Ok(piece) => println!(rt; ": piece {}..{}", piece.left.0, piece.right.0),
+        Err(refusal) => println!(rt; ": refusal {}", titled(refusal)),
     }
-    say(rt, b"\n")
 }
 
 // Row 10 where a transcript's tables break a rule, else the piece of the range.
@@ -53,71 +37,57 @@ fn found_for(
     size: usize,
     start: Zero,
     end: Zero,
-) -> PieceFound
+) -> Result<Piece, Refusal>
     requires { start.0 < end.0 }
 {
     match kind {
-        Kind::Open => pieces::piece_for(kind, table, cds_start, cds_end, start, end),
-        Kind::Crossing => pieces::piece_for(kind, table, cds_start, cds_end, start, end),
+        Kind::Open | Kind::Crossing => {
+            pieces::piece_for(kind, table, cds_start, cds_end, start, end)
+        }
         Kind::Transcript => {
             if tables::tables_hold(table, cds_start, cds_end, size) {
                 return pieces::piece_for(kind, table, cds_start, cds_end, start, end);
             }
-            PieceFound::NoPiece(Refusal::BadTables)
+            Err(Refusal::BadTables)
         }
     }
 }
 
-// The field of a number, which counts from 0.
+// The field of a number, which counts from 0, among those that bars part: empty where there is none.
 fn field(row: &[u8], number: usize) -> &[u8] {
-    let mut from = 0;
-    let mut i = 0;
-    while i < number {
-        from = text::after(row, from, b'|');
-        i += 1;
-    }
-    text::part(row, from, text::find(row, from, b'|'))
+    row.split(|byte| *byte == b'|').nth(number).unwrap_or(b"")
 }
 
 // The number that a field is; another where it is none.
 fn number_or(field: &[u8], other: usize) -> usize {
-    match decimals::decimal(field) {
-        Number::Is(number) => number as usize,
-        Number::Bad => other,
-    }
+    decimals::decimal(field).map_or(other, |number| number as usize)
 }
 
 fn kind_in(field: &[u8]) -> Kind {
-    if check::same(field, b"open") {
-        return Kind::Open;
+    match field {
+        b"open" => Kind::Open,
+        b"crossing" => Kind::Crossing,
+        _ => Kind::Transcript,
     }
-    if check::same(field, b"crossing") {
-        return Kind::Crossing;
-    }
-    Kind::Transcript
 }
 
 // A CDS bound: absent where the field is empty.
 fn bound_in(field: &[u8]) -> Bound {
-    if field.len() == 0 {
+    if field.is_empty() {
         return Bound::Absent;
     }
     match decimals::decimal(field) {
-        Number::Is(place) => Bound::At(place as usize),
-        Number::Bad => Bound::Negative,
+        Some(place) => Bound::At(place as usize),
+        None => Bound::Negative,
     }
 }
 
 // The bytes of the table that a field's exons fill.
 fn fill_table(exons: &[u8], table: &mut [u8]) -> usize {
-    if exons.len() == 0 {
+    if exons.is_empty() {
         return 0;
     }
-    match exon_lists::read_exons(exons, table) {
-        Exons::Table(size) => size,
-        Exons::BadPair => 0,
-        Exons::TooMany => 0,
-    }
+    exon_lists::read_exons(exons, table).unwrap_or(0)
 }
 
 // What a row's range comes to over a table.
@@ -125,7 +95,7 @@ fn say_piece(rt: &impl Print, row: &[u8], table: &[u8]) -> io::Result<()> {
     let start = number_or(field(row, 7), 0);
     let end = number_or(field(row, 8), 0);
     if end <= start {
-        return say(rt, b": no range\n");
+        return println!(rt; ": no range");
     }
     say_found(
         rt,
@@ -141,40 +111,34 @@ fn say_piece(rt: &impl Print, row: &[u8], table: &[u8]) -> io::Result<()> {
     )
 }
 
-// Runs a line: one that is empty, or begins with #, is no row.
-fn run_line(rt: &impl Print, line: &[u8]) -> io::Result<()> {
-    if line.len() == 0 {
-        return Ok(());
-    }
-    if line[0] == b'#' {
-        return Ok(());
-    }
-    let mut space = [0u8; 4104];
-    let table: &mut [u8] = &mut space;
-    let size = fill_table(field(line, 2), table);
-    say(rt, field(line, 0))?;
+// Runs a row. What it shows may be bytes that are not UTF-8.
+fn run_row(rt: &impl Print, row: &[u8]) -> io::Result<()> {
+    let mut table = [0u8; 4104];
+    let size = fill_table(field(row, 2), &mut table);
+    rt.write_all(field(row, 0))?;
     say_piece(
         rt,
-        line,
-        text::part(table, 0, number_or(field(line, 3), size)),
+        row,
+        text::part(&table, 0, number_or(field(row, 3), size)),
     )
 }
 
+// Runs the rows, one a line: a line that is empty, or begins with #, is none.
 fn run_rows(rt: &impl Print, rows: &[u8]) -> io::Result<()> {
-    let mut from = 0;
-    while from < rows.len() {
-        run_line(rt, text::part(rows, from, text::find(rows, from, b'\n')))?;
-        from = text::after(rows, from, b'\n');
+    for line in rows.split(|byte| *byte == b'\n') {
+        if line.is_empty() || line.starts_with(b"#") {
+            continue;
+        }
+        run_row(rt, line)?;
     }
     Ok(())
 }
 
 fn main(rt: HostRuntime) -> io::Result<()> {
     let mut space = [0u8; 65536];
-    let rows: &mut [u8] = &mut space;
-    let size = reading::read_full(&mut rt.reader(), rows);
-    if size == rows.len() {
-        return say(&rt, b"The rows have more than 65535 bytes.\n");
+    let size = reading::read_full(&mut rt.reader(), &mut space);
+    if size == space.len() {
+        return println!(rt; "The rows have more than 65535 bytes.");
     }
-    run_rows(&rt, text::part(rows, 0, size))
+    run_rows(&rt, &space[..size])
 }

@@ -3,7 +3,7 @@
 use mathlib.Core.Path.{◌≡◌, refl, ap}
 use mathlib.Core.Bool.{Bool, true, false, not, ◌||◌, true≢false}
 use mathlib.Core.List.{List, [], ◌∷◌, ◌++◌}
-use mathlib.Core.Option.{Option, none, some}
+use Rattle.std.specs.Prelude.{Option, None, Some}
 use Prim.Native.Nat.{ℕ, zero, suc, ◌+◌, ◌-◌, ◌≤◌, ◌<◌}
 use native.Mathlib.Omega.{arith}
 use borrow.Author.Tests.{eqb-true, leb-false, ltb-false, not-false}
@@ -15,8 +15,6 @@ use Rattle.definition.specs.declared.Edit.{Edit}
 use Rattle.definition.specs.declared.Edit.TheVariants.{Insert, Duplicate, Delete, Replace, Invert}
 use Rattle.definition.specs.declared.Refusal.{Refusal}
 use Rattle.definition.specs.declared.Refusal.TheVariants.{BadCode}
-use Rattle.definition.specs.declared.PieceFound.{PieceFound}
-use Rattle.definition.specs.declared.PieceFound.TheVariants.{InPiece, NoPiece}
 use Rattle.definition.specs.declared.Piece.{Piece}
 use Rattle.definition.specs.Change.{Change, spelled, trimmed}
 use Rattle.definition.specs.Request.{Request, altered_by, bound_of, kind_of, edit_of, direction_of, start_of, end_of, change_of}
@@ -27,14 +25,15 @@ use Rattle.definition.specs.Verdict.{answer_moved, answered_or16, moved_in, afte
 use Rattle.definition.specs.Answer.{Named}
 use Rattle.definition.proofs.Tests.{or-false}
 use Rattle.definition.proofs.Pieces.{Holds, piece-for-holds}
+use Rattle.std.specs.Prelude.{Err, Ok, Result}
 
 -- no row is given: this one is not, and none after it
-first-none : (x : Row) (xs : List Row) → first_given (x ∷ xs) ≡ none → (x.given ≡ false) × (first_given xs ≡ none)
+first-none : (x : Row) (xs : List Row) → first_given (x ∷ xs) ≡ None → (x.given ≡ false) × (first_given xs ≡ None)
 first-none x xs e = go x.given refl
   where
-    go : (b : Bool) → x.given ≡ b → (x.given ≡ false) × (first_given xs ≡ none)
+    go : (b : Bool) → x.given ≡ b → (x.given ≡ false) × (first_given xs ≡ None)
     go true t =
-        let f : some x.refusal ≡ none = rw t at e in
+        let f : Some x.refusal ≡ None = rw t at e in
         let z : ◌≡◌ {A = ℕ} 0 1 = cc in
         absurd (omega arith)
     go false t = (t, rw t at e)
@@ -43,7 +42,7 @@ first-none x xs e = go x.given refl
 abbrev no_row : Row
 no_row = record { refusal = BadCode; given = false }
 
-none-given : (xs : List Row) → first_given xs ≡ none → (i : ℕ) → (get_or xs i no_row).given ≡ false
+none-given : (xs : List Row) → first_given xs ≡ None → (i : ℕ) → (get_or xs i no_row).given ≡ false
 none-given [] e i = refl
 none-given (x ∷ xs) e zero = (first-none x xs e).0
 none-given (x ∷ xs) e (suc i) = none-given xs (first-none x xs e).1 i
@@ -69,7 +68,7 @@ pub record Sound (r : Request) : Type 0 where
   pub range_size : end_of r - start_of r ≤ longest_allele
   pub alternative_size : length (read_alternative (edit_of r.edit_code) r.alternative) ≤ longest_allele
 
-pub sound : (r : Request) → first_given (request_rows r) ≡ none → Sound r
+pub sound : (r : Request) → first_given (request_rows r) ≡ None → Sound r
 unfolding request_rows target_rows change_rows bad_target out_of_bounds too_long start_of end_of
 sound r e =
     let row₃ : (eqb (length r.target) 0 || ltb longest_target (length r.target)) ≡ false = none-given (request_rows r) e 2 in
@@ -137,18 +136,18 @@ never e =
     absurd (omega arith)
 
 -- what is not refused passes the rows, and is answered by the rest
-pub passed : (o : Option Refusal) (v : Verdict) (a : Answer) → refused_or o v ≡ answered a → (o ≡ none) × (v ≡ answered a)
+pub passed : (o : Option Refusal) (v : Verdict) (a : Answer) → refused_or o v ≡ answered a → (o ≡ None) × (v ≡ answered a)
 unfolding refused_or
-passed none v a e = (refl, e)
-passed (some n) v a e = never e
+passed None v a e = (refl, e)
+passed (Some n) v a e = never e
 
-pub first-front : (xs ys : List Row) → first_given (xs ++ ys) ≡ none → first_given xs ≡ none
+pub first-front : (xs ys : List Row) → first_given (xs ++ ys) ≡ None → first_given xs ≡ None
 first-front [] ys e = refl
 first-front (x ∷ xs) ys e =
-    let f : (x.given ≡ false) × (first_given (xs ++ ys) ≡ none) = first-none x (xs ++ ys) e in
+    let f : (x.given ≡ false) × (first_given (xs ++ ys) ≡ None) = first-none x (xs ++ ys) e in
     rw f.0 (first-front xs ys f.1)
 
-pub first-last : (xs : List Row) (y : Row) → first_given (xs ++ (y ∷ [])) ≡ none → y.given ≡ false
+pub first-last : (xs : List Row) (y : Row) → first_given (xs ++ (y ∷ [])) ≡ None → y.given ≡ false
 first-last [] y e = (first-none y [] e).0
 first-last (x ∷ xs) y e = first-last xs y (first-none x (xs ++ (y ∷ [])) e).1
 
@@ -160,15 +159,15 @@ pub accepted-in : (r : Request) (a : Answer) → verdict r ≡ answered a → an
 unfolding verdict
 accepted-in r a e = (passed (first_given (rows r)) (answer_in r (piece_of r)) a e).1
 
-answered-16 : (report : Named → Answer) (o : Option Named) (a : Answer) → answered_or16 report o ≡ answered a → (n : Named) × (o ≡ some n) × (report n ≡ a)
+answered-16 : (report : Named → Answer) (o : Option Named) (a : Answer) → answered_or16 report o ≡ answered a → (n : Named) × (o ≡ Some n) × (report n ≡ a)
 unfolding answered_or16
-answered-16 report none a e = never e
-answered-16 report (some n) a e = (n, refl, cc)
+answered-16 report None a e = never e
+answered-16 report (Some n) a e = (n, refl, cc)
 
 -- how a request was answered, with the piece found for it: at once, or by its normal change in the piece
-pub data Route (r : Request) (found : PieceFound) (a : Answer) : Type 0 where
-  at_once : (n : Named) → answered_at_once (edit_of r.edit_code) r ≡ some n → answer_at_once n ≡ a → Route r found a
-  moved : (p : Piece) (n : Named) → found ≡ InPiece p → normal_of r p ≡ some n → report_of r p n ≡ a → Route r found a
+pub data Route (r : Request) (found : Result Piece Refusal) (a : Answer) : Type 0 where
+  at_once : (n : Named) → answered_at_once (edit_of r.edit_code) r ≡ Some n → answer_at_once n ≡ a → Route r found a
+  moved : (p : Piece) (n : Named) → found ≡ Ok p → normal_of r p ≡ Some n → report_of r p n ≡ a → Route r found a
 
 -- either way the answer holds what was named
 pub at-once-what : (r : Request) (n : Named) (a : Answer) → answer_at_once n ≡ a → n ≡ a.what
@@ -179,20 +178,20 @@ pub moved-what : (r : Request) (p : Piece) (n : Named) (a : Answer) → report_o
 unfolding answer_moved
 moved-what r p n a e = ap (λ (x : Answer). x.what) e
 
-after-piece : (r : Request) (found : PieceFound) (a : Answer)
+after-piece : (r : Request) (found : Result Piece Refusal) (a : Answer)
     → after_piece (direction_of r.direction_code) (kind_of r.kind_code) r.target (change_of r) found ≡ answered a → Route r found a
 unfolding after_piece moved_in
-after-piece r (NoPiece n) a e = never e
-after-piece r (InPiece p) a e =
+after-piece r (Err n) a e = never e
+after-piece r (Ok p) a e =
     let x = answered-16 (report_of r p) (normal_of r p) a e in
     moved p x.0 refl x.1 x.2
 
-after-shortcuts : (r : Request) (found : PieceFound) (a : Answer) (o : Option Named) → answered_at_once (edit_of r.edit_code) r ≡ o
+after-shortcuts : (r : Request) (found : Result Piece Refusal) (a : Answer) (o : Option Named) → answered_at_once (edit_of r.edit_code) r ≡ o
     → after_shortcuts (direction_of r.direction_code) (kind_of r.kind_code) r.target (change_of r) found o ≡ answered a → Route r found a
 unfolding after_shortcuts
-after-shortcuts r found a none i e = after-piece r found a e
-after-shortcuts r found a (some n) i e = at_once n i (cc)
+after-shortcuts r found a None i e = after-piece r found a e
+after-shortcuts r found a (Some n) i e = at_once n i (cc)
 
-pub route : (r : Request) (found : PieceFound) (a : Answer) → answer_in r found ≡ answered a → Route r found a
+pub route : (r : Request) (found : Result Piece Refusal) (a : Answer) → answer_in r found ≡ answered a → Route r found a
 unfolding answer_in
 route r found a e = after-shortcuts r found a (answered_at_once (edit_of r.edit_code) r) refl e

@@ -1,4 +1,4 @@
--- The marked rows of 01's bench are one theorem, the rows that they leave open a second. Assumes nothing.
+-- The marked rows of the bench (docs/RULES.md) are one theorem, the rows that they leave open a second. Assumes nothing.
 use mathlib.Core.Path.{refl}
 use Rattle.definition.specs.Bases.{is_base, complement, reverse_complement}
 use Rattle.definition.specs.Prefix.{lcs}

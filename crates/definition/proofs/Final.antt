@@ -4,7 +4,7 @@ use mathlib.Core.Path.{◌≡◌, refl, sym, ◌∙◌, subst}
 use mathlib.Core.Logic.{◌⊎◌, inl, inr, ⊎_elim}
 use mathlib.Core.Bool.{Bool, true, false}
 use mathlib.Core.List.{List}
-use mathlib.Core.Option.{none, some}
+use Rattle.std.specs.Prelude.{None, Some}
 use Prim.Native.Nat.{ℕ, ◌+◌, ◌-◌, ◌≤◌, ◌<◌, min}
 use native.Mathlib.Nat.{le_refl}
 use native.Mathlib.Omega.{arith}
@@ -41,7 +41,7 @@ mixed-end n p s h = omega arith
 
 -- what is named at a place, where row 16 does not refuse it
 pub named-is : (direction : Direction) (kind : Kind) (piece : Piece) (target : List ℕ) (q : ℕ) (ref alt : List ℕ) (n : Named)
-    → named_at direction kind piece target q ref alt ≡ some n → last_base_rule kind target (first_base_rule target (named direction piece target q ref alt)) ≡ n
+    → named_at direction kind piece target q ref alt ≡ Some n → last_base_rule kind target (first_base_rule target (named direction piece target q ref alt)) ≡ n
 unfolding named_at
 named-is direction kind piece target q ref alt n e = go (leaves_target direction piece target q ref alt) refl
   where
@@ -50,15 +50,15 @@ named-is direction kind piece target q ref alt n e = go (leaves_target direction
 
     go : (b : Bool) → leaves_target direction piece target q ref alt ≡ b → result ≡ n
     go true t =
-        let f : none ≡ some n = rw t at e in
+        let f : None ≡ Some n = rw t at e in
         cc
     go false t =
-        let f : some result ≡ some n = rw t at e in
+        let f : Some result ≡ Some n = rw t at e in
         cc
 
 -- an answer with alleles that restore the altered sequence denotes it
 named-denotes : (direction : Direction) (kind : Kind) (piece : Piece) (target after : List ℕ) (q : ℕ) (ref alt : List ℕ) (n : Named) → 1 ≤ length target
-    → Alleles target after q ref alt → named_at direction kind piece target q ref alt ≡ some n → denoted target n ≡ after
+    → Alleles target after q ref alt → named_at direction kind piece target q ref alt ≡ Some n → denoted target n ≡ after
 named-denotes direction kind piece target after q ref alt n big a e =
     subst (λ (x : Named). denoted target x ≡ after) (named-is direction kind piece target q ref alt n e)
     (means-last kind target after (first_base_rule target (named direction piece target q ref alt))
@@ -169,6 +169,6 @@ module _ (direction : Direction) (piece : Piece) (target : List ℕ) (c : Change
 
   -- Law 6
   pub normal-denotes : (kind : Kind) (n : Named) → 1 ≤ length target
-      → normal direction kind piece target (altered target c) (trimmed direction target c) ≡ some n → denoted target n ≡ altered target c
+      → normal direction kind piece target (altered target c) (trimmed direction target c) ≡ Some n → denoted target n ≡ altered target c
   unfolding normal normal_at
   normal-denotes kind n big e = named-denotes direction kind piece target (altered target c) _ _ _ n big alleles e

@@ -11,7 +11,7 @@ use Rattle.definition.specs.declared.Piece.{Piece}
 use Rattle.definition.specs.Bases.{reverse_complement, same_bases}
 use Rattle.definition.specs.Change.{splice}
 
--- the paper's numbers
+-- the numbers of the classes (docs/RULES.md)
 abbrev pub class_number : Class → ℕ
 class_number Insertion = 1
 class_number Duplication = 2

@@ -1,4 +1,4 @@
--- The bench of 01 on target CAAATGGTACCA: the rows that it marks, each request beside its answer. Exons and alternatives are written out in
+-- The bench of docs/RULES.md on target CAAATGGTACCA: the rows that it marks, each request beside its answer. Exons and alternatives are written out in
 -- bytes; L is 12, the window 20, there is no CDS. Assumes nothing.
 use Rattle.std.specs.Prelude.{ℕ, ◌≡◌, List, [], ◌∷◌, map, pos, negsuc}
 use Rattle.definition.specs.declared.Refusal.TheVariants.{VariantSpanOutsideSequenceBounds}
@@ -99,10 +99,12 @@ bench_rows =
     ∷ []
 
 -- Rows that the marked ones leave open: open targets have no last-base rule; a duplication's copy goes in at gap end in both directions; a
--- change with both alleles empty ends at L and not past it, so the last-base rule leaves it
+-- change with both alleles empty ends at L and not past it, so the last-base rule leaves it; a replacement by the same bases is answered at once, also
+-- over two exons
 unfoldable pub further_rows : List BenchRow
 further_rows =
     record { asked = on_open ins 10 12 (A ∷ G ∷ []) right; answer = gives Insertion 12 13 [] (G ∷ A ∷ []) 1 }
     ∷ record { asked = on_open dup 1 2 [] left; answer = gives Duplication 2 2 (A ∷ []) [] 2 }
     ∷ record { asked = on_one inv 5 11 [] right; answer = gives Unchanged 12 12 [] [] 1 }
+    ∷ record { asked = on_two rep 3 5 (A ∷ T ∷ []) right; answer = gives Unchanged 4 5 (A ∷ T ∷ []) (A ∷ T ∷ []) 0 }
     ∷ []

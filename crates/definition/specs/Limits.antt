@@ -1,4 +1,4 @@
--- The limits of 01, each number once. A name unfolds everywhere, so that a contract says the name and arithmetic sees the number.
+-- The limits (docs/RULES.md), each number once. A name unfolds everywhere, so that a contract says the name and arithmetic sees the number.
 -- Assumes nothing.
 use Rattle.std.specs.Prelude.{ℕ}
 

@@ -5,13 +5,11 @@ use Rattle.definition.specs.declared.Kind.TheVariants.{Open, Transcript, Crossin
 use Rattle.definition.specs.declared.Bound.{Bound}
 use Rattle.definition.specs.declared.Bound.TheVariants.{Absent, At, Negative}
 use Rattle.definition.specs.declared.Refusal.TheVariants.{ExonNotFoundForStart, ExonNotFoundForEnd, ExonIntronBoundary, UtrExonBoundary}
-use Rattle.definition.specs.declared.PieceFound.{PieceFound}
-use Rattle.definition.specs.declared.PieceFound.TheVariants.{InPiece, NoPiece}
 use Rattle.definition.specs.declared.Piece.{Piece}
 use Rattle.definition.specs.declared.Exon.{Exon}
-use Rattle.definition.specs.declared.ExonFound.{ExonFound}
-use Rattle.definition.specs.declared.ExonFound.TheVariants.{Holding, NoExon}
 use Rattle.definition.specs.Limits.{most_exons, open_end}
+use Rattle.definition.specs.declared.Refusal.{Refusal}
+use Rattle.std.specs.Prelude.{Err, None, Ok, Option, Result, Some}
 
 abbrev pub exon_from : ℕ → ℕ → Exon
 exon_from s e = record { start = record { 0 = s }; end = record { 0 = e } }
@@ -83,36 +81,36 @@ unfoldable pub whole_piece : Piece
 whole_piece = piece_from 0 open_end
 
 -- the exon that holds base p. An exon has start < end <= exon end exactly if it holds base end - 1
-abbrev pub exon_holding : ℕ → List Exon → ExonFound
-exon_holding p [] = NoExon
-exon_holding p (x ∷ xs) = cond (leb x.start.0 p && ltb p x.end.0) (Holding x) (exon_holding p xs)
+abbrev pub exon_holding : ℕ → List Exon → Option Exon
+exon_holding p [] = None
+exon_holding p (x ∷ xs) = cond (leb x.start.0 p && ltb p x.end.0) (Some x) (exon_holding p xs)
 
 -- the side of a CDS bound on which the range lies; row 15 where it has bases on both
-unfoldable pub cut_at : Bound → ℕ → ℕ → PieceFound → PieceFound
+unfoldable pub cut_at : Bound → ℕ → ℕ → Result Piece Refusal → Result Piece Refusal
 cut_at Absent start end found = found
 cut_at Negative start end found = found
-cut_at (At c) start end (NoPiece x) = NoPiece x
-cut_at (At c) start end (InPiece p) =
-    cond (leb end c) (InPiece (piece_from p.left.0 (min p.right.0 c)))
-    (cond (leb c start) (InPiece (piece_from (max p.left.0 c) p.right.0))
-    (NoPiece UtrExonBoundary))
+cut_at (At c) start end (Err x) = Err x
+cut_at (At c) start end (Ok p) =
+    cond (leb end c) (Ok (piece_from p.left.0 (min p.right.0 c)))
+    (cond (leb c start) (Ok (piece_from (max p.left.0 c) p.right.0))
+    (Err UtrExonBoundary))
 
 -- rows 12 to 14
-unfoldable pub exon_piece : ExonFound → ExonFound → PieceFound
-exon_piece NoExon last = NoPiece ExonNotFoundForStart
-exon_piece (Holding x) NoExon = NoPiece ExonNotFoundForEnd
-exon_piece (Holding x) (Holding y) =
-    cond (eqb x.start.0 y.start.0 && eqb x.end.0 y.end.0) (InPiece (piece_from x.start.0 x.end.0)) (NoPiece ExonIntronBoundary)
+unfoldable pub exon_piece : Option Exon → Option Exon → Result Piece Refusal
+exon_piece None last = Err ExonNotFoundForStart
+exon_piece (Some x) None = Err ExonNotFoundForEnd
+exon_piece (Some x) (Some y) =
+    cond (eqb x.start.0 y.start.0 && eqb x.end.0 y.end.0) (Ok (piece_from x.start.0 x.end.0)) (Err ExonIntronBoundary)
 
 -- rows 12 to 15, in order: the exon, cut on the range's side of CDS start, then of CDS end
-unfoldable pub transcript_piece : List Exon → Bound → Bound → ℕ → ℕ → PieceFound
+unfoldable pub transcript_piece : List Exon → Bound → Bound → ℕ → ℕ → Result Piece Refusal
 transcript_piece exons cds_start cds_end start end =
     cut_at cds_end start end
     (cut_at cds_start start end
     (exon_piece (exon_holding start exons) (exon_holding (end - 1) exons)))
 
 -- the piece of a range: open targets and crossing transcripts do not read the tables
-unfoldable pub piece_for : Kind → List ℕ → Bound → Bound → ℕ → ℕ → PieceFound
-piece_for Open bytes cds_start cds_end start end = InPiece whole_piece
+unfoldable pub piece_for : Kind → List ℕ → Bound → Bound → ℕ → ℕ → Result Piece Refusal
+piece_for Open bytes cds_start cds_end start end = Ok whole_piece
 piece_for Transcript bytes cds_start cds_end start end = transcript_piece (pieces_of bytes) cds_start cds_end start end
-piece_for Crossing bytes cds_start cds_end start end = InPiece whole_piece
+piece_for Crossing bytes cds_start cds_end start end = Ok whole_piece

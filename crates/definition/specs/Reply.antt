@@ -1,15 +1,15 @@
--- What the caller sees of a verdict: the paper's numbers, and both answer buffers. Assumes nothing.
+-- What the caller sees of a verdict: the numbers of docs/RULES.md, and both answer buffers. Assumes nothing.
 use Rattle.std.specs.Prelude.{ℕ, ◌≡◌, List, [], ◌++◌, length, drop}
 use Rattle.definition.specs.declared.Refusal.{Refusal}
 use Rattle.definition.specs.declared.Refusal.TheVariants.{BadCode, BadWindow, BadTarget, BadBase, CoordinatesOutOfBounds, BadInsertion, TooLong}
 use Rattle.definition.specs.declared.Refusal.TheVariants.{BadAllele, NoRoom, BadTables, ExonNotFoundForStart, ExonNotFoundForEnd}
 use Rattle.definition.specs.declared.Refusal.TheVariants.{ExonIntronBoundary, UtrExonBoundary, VariantSpanOutsideSequenceBounds}
-use Rattle.definition.specs.declared.Outcome.{Outcome}
-use Rattle.definition.specs.declared.Outcome.TheVariants.{Answer, Refuse}
 use Rattle.definition.specs.Answer.{class_number}
 use Rattle.definition.specs.Verdict.{Verdict, refused, answered}
+use Rattle.definition.specs.declared.Answered.{Answered}
+use Rattle.std.specs.Prelude.{Err, Ok, Result}
 
--- 01's number for each refusal; 11 is reserved
+-- the number of each row of the refusals (docs/RULES.md); 11 is reserved
 abbrev pub refusal_number : Refusal → ℕ
 refusal_number BadCode = 1
 refusal_number BadWindow = 2
@@ -68,10 +68,10 @@ reply reference_buffer alternative_buffer (answered a) = record {
 }
 
 -- what the code hands on of a verdict: its numbers, and the alleles that it lays at the front of the lent buffers, none for a refusal
-unfoldable pub outcome_of : Verdict → Outcome
-outcome_of (refused x) = Refuse x
+unfoldable pub outcome_of : Verdict → Result Answered Refusal
+outcome_of (refused x) = Err x
 outcome_of (answered a) =
-    Answer
+    Ok
     (record {
       class = a.what.class;
       start = record { 0 = a.what.start };
@@ -90,7 +90,7 @@ alternative_out (refused x) = []
 alternative_out (answered a) = a.what.alternative
 
 -- a verdict is met by what comes back and by both buffers, as they were and as they are
-pub record Met (v : Verdict) (r : Outcome) (reference reference' alternative alternative' : List ℕ) : Type 0 where
+pub record Met (v : Verdict) (r : Result Answered Refusal) (reference reference' alternative alternative' : List ℕ) : Type 0 where
   pub numbers : r ≡ outcome_of v
   pub reference_buffer : reference' ≡ written (reference_out v) reference
   pub alternative_buffer : alternative' ≡ written (alternative_out v) alternative

@@ -8,10 +8,10 @@ use Rattle.definition.specs.declared.Direction.{Direction}
 use Rattle.definition.specs.declared.Direction.TheVariants.{Rightward, Leftward}
 use Rattle.definition.specs.declared.Bound.{Bound}
 use Rattle.definition.specs.declared.Bound.TheVariants.{Absent, At, Negative}
-use Rattle.definition.specs.declared.Coordinate.{Coordinate}
-use Rattle.definition.specs.declared.Coordinate.TheVariants.{Natural, Below}
 use Rattle.definition.specs.Change.{Change, spelled, altered}
 use Rattle.std.specs.Int.Signed.{mag}
+use Rattle.definition.specs.declared.Zero.{Zero}
+use Rattle.std.specs.Prelude.{None, Option, Some}
 
 pub record Request : Type 0 where
   pub target : List ℕ
@@ -39,9 +39,9 @@ unfoldable pub direction_of : ℕ → Direction
 direction_of code = cond (eqb code 0) Rightward Leftward
 
 -- an end of a range
-unfoldable pub coordinate_of : ℤ → Coordinate
-coordinate_of (pos n) = Natural (record { 0 = n })
-coordinate_of (negsuc n) = Below
+unfoldable pub coordinate_of : ℤ → Option Zero
+coordinate_of (pos n) = Some (record { 0 = n })
+coordinate_of (negsuc n) = None
 
 -- a CDS bound: -1 is absent, any other negative number breaks a table rule
 unfoldable pub bound_of : ℤ → Bound

@@ -2,7 +2,7 @@
 -- The window decides nothing but row 2. Assumes nothing.
 use Rattle.definition.specs.declared.Bound.{Bound}
 use Rattle.std.specs.Prelude.{ℕ, ◌+◌, ◌-◌, Bool, false, cond, not, ◌&&◌, ◌||◌, List, [], ◌∷◌, ◌++◌, pos, eqb, ltb, length}
-use Rattle.std.proofs.Math.Option.{Option, none, some}
+use Rattle.std.specs.Prelude.{Option, None, Some}
 use Rattle.std.specs.Int.Signed.{lt_z, le_z}
 use Rattle.std.proofs.Math.Seq.{slice}
 use Rattle.definition.specs.declared.Kind.{Kind}
@@ -13,8 +13,6 @@ use Rattle.definition.specs.declared.Direction.{Direction}
 use Rattle.definition.specs.declared.Refusal.{Refusal}
 use Rattle.definition.specs.declared.Refusal.TheVariants.{BadCode, BadWindow, BadTarget, BadBase, CoordinatesOutOfBounds, BadInsertion, TooLong}
 use Rattle.definition.specs.declared.Refusal.TheVariants.{BadAllele, NoRoom, BadTables, VariantSpanOutsideSequenceBounds}
-use Rattle.definition.specs.declared.PieceFound.{PieceFound}
-use Rattle.definition.specs.declared.PieceFound.TheVariants.{InPiece, NoPiece}
 use Rattle.definition.specs.declared.Class.TheVariants.{Replacement, Unchanged}
 use Rattle.definition.specs.declared.Piece.{Piece}
 use Rattle.definition.specs.Bases.{all_bases, same_bases}
@@ -24,6 +22,7 @@ use Rattle.definition.specs.Request.{Request, kind_of, edit_of, direction_of, bo
 use Rattle.definition.specs.Piece.{piece_for, tables_hold}
 use Rattle.definition.specs.Place.{place_of, probes_of}
 use Rattle.definition.specs.Answer.{Named, named, first_base_rule, last_base_rule, leaves_target}
+use Rattle.std.specs.Prelude.{Err, Ok, Result}
 
 -- an accepted request's answer: what is named, and the probes
 pub record Answer : Type 0 where
@@ -137,36 +136,36 @@ unfoldable pub rows : Request → List Row
 rows r = request_rows r ++ (record { refusal = BadTables; given = bad_tables (kind_of r.kind_code) r } ∷ [])
 
 abbrev pub first_given : List Row → Option Refusal
-first_given [] = none
-first_given (x ∷ xs) = cond x.given (some x.refusal) (first_given xs)
+first_given [] = None
+first_given (x ∷ xs) = cond x.given (Some x.refusal) (first_given xs)
 
 -- the two requests that are answered before a piece is looked for: a replacement by the same bases, and one base by one other
 unfoldable pub replaced_at_once : ℕ → ℕ → List ℕ → List ℕ → Option Named
 replaced_at_once start end ref alt =
-    cond (same_bases ref alt) (some (record { class = Unchanged; start = start + 1; end = end; reference = ref; alternative = alt }))
+    cond (same_bases ref alt) (Some (record { class = Unchanged; start = start + 1; end = end; reference = ref; alternative = alt }))
     (cond (eqb (length ref) 1 && eqb (length alt) 1)
-    (some (record { class = Replacement; start = start + 1; end = start + 1; reference = ref; alternative = alt }))
-    none)
+    (Some (record { class = Replacement; start = start + 1; end = start + 1; reference = ref; alternative = alt }))
+    None)
 
 abbrev pub shortcut : Edit → List ℕ → ℕ → ℕ → List ℕ → Option Named
-shortcut Insert target start end alternative = none
-shortcut Duplicate target start end alternative = none
-shortcut Delete target start end alternative = none
+shortcut Insert target start end alternative = None
+shortcut Duplicate target start end alternative = None
+shortcut Delete target start end alternative = None
 shortcut Replace target start end alternative = replaced_at_once start end (slice start end target) alternative
-shortcut Invert target start end alternative = none
+shortcut Invert target start end alternative = None
 
 unfoldable pub answered_at_once : Edit → Request → Option Named
 answered_at_once edit r = shortcut edit r.target (start_of r) (end_of r) r.alternative
 
 -- the piece that a request's range lies in, or rows 12 to 15
-unfoldable pub piece_of : Request → PieceFound
+unfoldable pub piece_of : Request → Result Piece Refusal
 piece_of r = piece_for (kind_of r.kind_code) r.exon_bytes (bound_of r.cds_start) (bound_of r.cds_end) (start_of r) (end_of r)
 
 -- the change at its final place q, with its alleles: named, then the end rules; row 16 before them
 unfoldable pub named_at : Direction → Kind → Piece → List ℕ → ℕ → List ℕ → List ℕ → Option Named
 named_at direction kind piece target q ref alt =
-    cond (leaves_target direction piece target q ref alt) none
-    (some (last_base_rule kind target (first_base_rule target (named direction piece target q ref alt))))
+    cond (leaves_target direction piece target q ref alt) None
+    (Some (last_base_rule kind target (first_base_rule target (named direction piece target q ref alt))))
 
 -- the normal change: the alleles of `after` against the target at the final place
 unfoldable pub normal_at : Direction → Kind → Piece → List ℕ → List ℕ → ℕ → ℕ → ℕ → Option Named
@@ -186,8 +185,8 @@ answer_moved direction piece target after t n =
     record { what = n; probes = probes_of direction piece target t (place_of direction piece target after t) }
 
 unfoldable pub answered_or16 : (Named → Answer) → Option Named → Verdict
-answered_or16 report none = refused VariantSpanOutsideSequenceBounds
-answered_or16 report (some n) = answered (report n)
+answered_or16 report None = refused VariantSpanOutsideSequenceBounds
+answered_or16 report (Some n) = answered (report n)
 
 unfoldable pub moved_in : Direction → Kind → Piece → List ℕ → Change → Verdict
 moved_in direction kind piece target c =
@@ -195,22 +194,22 @@ moved_in direction kind piece target c =
     let after = altered target c in
     answered_or16 (answer_moved direction piece target after t) (normal direction kind piece target after t)
 
-unfoldable pub after_piece : Direction → Kind → List ℕ → Change → PieceFound → Verdict
-after_piece direction kind target c (NoPiece x) = refused x
-after_piece direction kind target c (InPiece p) = moved_in direction kind p target c
+unfoldable pub after_piece : Direction → Kind → List ℕ → Change → Result Piece Refusal → Verdict
+after_piece direction kind target c (Err x) = refused x
+after_piece direction kind target c (Ok p) = moved_in direction kind p target c
 
-unfoldable pub after_shortcuts : Direction → Kind → List ℕ → Change → PieceFound → Option Named → Verdict
-after_shortcuts direction kind target c found (some n) = answered (answer_at_once n)
-after_shortcuts direction kind target c found none = after_piece direction kind target c found
+unfoldable pub after_shortcuts : Direction → Kind → List ℕ → Change → Result Piece Refusal → Option Named → Verdict
+after_shortcuts direction kind target c found (Some n) = answered (answer_at_once n)
+after_shortcuts direction kind target c found None = after_piece direction kind target c found
 
 -- what a request that passes the rows is answered, with the piece that was found for it
-unfoldable pub answer_in : Request → PieceFound → Verdict
+unfoldable pub answer_in : Request → Result Piece Refusal → Verdict
 answer_in r found =
     after_shortcuts (direction_of r.direction_code) (kind_of r.kind_code) r.target (change_of r) found (answered_at_once (edit_of r.edit_code) r)
 
 unfoldable pub refused_or : Option Refusal → Verdict → Verdict
-refused_or none v = v
-refused_or (some x) v = refused x
+refused_or None v = v
+refused_or (Some x) v = refused x
 
 unfoldable pub verdict : Request → Verdict
 verdict r = refused_or (first_given (rows r)) (answer_in r (piece_of r))

@@ -1,4 +1,4 @@
--- The move as 01 tells it: one base at a time, while the altered sequence stays the same and the change stays inside piece and target. The
+-- The move as docs/RULES.md tells it: one base at a time, while the altered sequence stays the same and the change stays inside piece and target. The
 -- place where it ends and the pairs of bases that it compares are counted as it goes; that they are the definition's place and probes is a law.
 -- Assumes nothing.
 use Rattle.std.specs.Prelude.{ℕ, zero, suc, ◌+◌, ◌-◌, Bool, cond, List, eqb, leb, get_or}

@@ -3,7 +3,7 @@ use mathlib.Core.Path.{◌≡◌, refl, sym, ap, ◌∙◌, subst}
 use mathlib.Core.Logic.{◌⊎◌, inl, inr}
 use mathlib.Core.Bool.{Bool, true, false, false≢true}
 use mathlib.Core.List.{List}
-use mathlib.Core.Option.{some}
+use Rattle.std.specs.Prelude.{Some}
 use Prim.Native.Nat.{ℕ, ◌+◌, ◌≤◌}
 use native.Mathlib.Omega.{arith}
 use borrow.Author.Tests.{eqb-true}
@@ -13,7 +13,7 @@ use Rattle.definition.specs.declared.Direction.{Direction}
 use Rattle.definition.specs.declared.Piece.{Piece}
 use Rattle.definition.specs.Change.{Change, Trimmed, altered, trimmed}
 use Rattle.definition.specs.Request.{Request, altered_by, kind_of, direction_of, start_of, end_of, change_of}
-use Rattle.definition.specs.Place.{Equivalent, Inside, NotFurther, right_edge, furthest, is_pure, place_of}
+use Rattle.definition.specs.Place.{Equivalent, Inside, NotFurther, right_edge, is_pure, place_of}
 use Rattle.definition.specs.Verdict.{Answer, answered, verdict, piece_of, normal, normal_at, answer_at_once, answer_moved}
 use Rattle.demands.specs.Demand2.{Settled, Moved, AtOnce, Demand2}
 use Rattle.definition.proofs.Places.{none-further, furthest-inside}
@@ -75,7 +75,7 @@ module _ (r : Request) (a : Answer) (e : verdict r ≡ answered a) where
 
   way : Route r (piece_of r) a → AtOnce r a ⊎ Moved r a
   unfolding answer_at_once answer_moved normal normal_at
-  way (at_once n f g) = inl (record { what = f ∙ ap some (at-once-what r n a g); probes = sym (ap (λ (x : Answer). x.probes) g) })
+  way (at_once n f g) = inl (record { what = f ∙ ap Some (at-once-what r n a g); probes = sym (ap (λ (x : Answer). x.probes) g) })
   way (moved p n f g h) =
       let l : Lies (start_of r) (end_of r) (change_of r) = lies r sound in
       let holds : (p.left.0 ≤ start_of r) × (end_of r ≤ p.right.0) = piece-holds r sound p f in

@@ -20,7 +20,7 @@ use Rattle.definition.proofs.Tests.{none-some}
 use mathlib.Core.Path.{◌≡◌, refl, subst, sym}
 use mathlib.Core.Bool.{Bool, true, false, ◌&&◌}
 use mathlib.Core.List.{List, [], ◌∷◌}
-use mathlib.Core.Option.{none, some}
+use Rattle.std.specs.Prelude.{None, Some}
 use Prim.Native.Nat.{ℕ, ◌+◌, ◌≤◌, ◌<◌, ◌-◌}
 use mathlib.Core.Logic.{⊎_elim}
 use native.Mathlib.Omega.{arith}
@@ -86,11 +86,11 @@ near_last kind target n h = go (has_last_base_rule kind && eqb n.end (length tar
     go false t = rw t h
 
 near-at-once : (start end : ℕ) (target ref alt : List ℕ) (n : Named) → start < end → end ≤ length target
-    → replaced_at_once start end ref alt ≡ some n → Near target n
+    → replaced_at_once start end ref alt ≡ Some n → Near target n
 unfolding replaced_at_once
 near-at-once start end target ref alt n o h e = go (same_bases ref alt) (eqb (length ref) 1 && eqb (length alt) 1) refl refl
   where
-    both : (x : Named) → some x ≡ some n → Near target x → Near target n
+    both : (x : Named) → Some x ≡ Some n → Near target x → Near target n
     both x f s =
         let g : x ≡ n = cc in
         subst (Near target) g s
@@ -99,10 +99,10 @@ near-at-once start end target ref alt n o h e = go (same_bases ref alt) (eqb (le
     go true c t u = both (record { class = Unchanged; start = start + 1; end = end; reference = ref; alternative = alt }) (rw t at e) (omega arith)
     go false true t u = both (record { class = Replacement; start = start + 1; end = start + 1; reference = ref; alternative = alt }) (rw (t, u) at e) (omega arith)
     go false false t u =
-        let f : none ≡ some n = rw (t, u) at e in
+        let f : None ≡ Some n = rw (t, u) at e in
         absurd (none-some f)
 
-near-shortcut : (e : Edit) (r : Request) (n : Named) → Sound r → answered_at_once e r ≡ some n → Near r.target n
+near-shortcut : (e : Edit) (r : Request) (n : Named) → Sound r → answered_at_once e r ≡ Some n → Near r.target n
 unfolding answered_at_once
 near-shortcut Insert r n s f = absurd (none-some f)
 near-shortcut Duplicate r n s f = absurd (none-some f)

@@ -2,7 +2,7 @@
 use mathlib.Core.Path.{◌≡◌, refl, ap, ◌∙◌, subst}
 use mathlib.Core.Bool.{Bool, true, false, ◌&&◌}
 use mathlib.Core.List.{List, [], ◌∷◌}
-use mathlib.Core.Option.{none, some}
+use Rattle.std.specs.Prelude.{None, Some}
 use Prim.Native.Nat.{ℕ, suc, ◌+◌, ◌-◌, ◌≤◌}
 use native.Mathlib.Omega.{arith}
 use borrow.Author.Tests.{eqb-true}
@@ -87,7 +87,7 @@ short-last kind target limit n f = go (has_last_base_rule kind && eqb n.end (len
     go false t = rw t f.both
 
 short-at : (direction : Direction) (kind : Kind) (piece : Piece) (target : List ℕ) (limit q : ℕ) (ref alt : List ℕ) (n : Named)
-    → 1 ≤ length target → length ref ≤ limit → length alt ≤ limit → named_at direction kind piece target q ref alt ≡ some n → Short (suc limit) n
+    → 1 ≤ length target → length ref ≤ limit → length alt ≤ limit → named_at direction kind piece target q ref alt ≡ Some n → Short (suc limit) n
 short-at direction kind piece target limit q ref alt n big r a e =
     subst (Short (suc limit)) (named-is direction kind piece target q ref alt n e)
     (short-last kind target limit (first_base_rule target (named direction piece target q ref alt))
@@ -106,7 +106,7 @@ alternative-size direction target c limit h = omega arith
 -- a change's normal form is no longer than the change as it is spelled
 pub normal-short : (direction : Direction) (kind : Kind) (piece : Piece) (target : List ℕ) (c : Change) (limit : ℕ) (n : Named) → 1 ≤ length target
     → c.to - c.from ≤ limit → length c.inserted ≤ limit
-    → normal direction kind piece target (altered target c) (trimmed direction target c) ≡ some n
+    → normal direction kind piece target (altered target c) (trimmed direction target c) ≡ Some n
     → (length n.reference ≤ suc limit) × (length n.alternative ≤ suc limit)
 unfolding normal normal_at
 normal-short direction kind piece target c limit n big r a e =
@@ -130,12 +130,12 @@ spelled-short Invert r s a =
     omega (arith, slice-short (start_of r) (end_of r) r.target, s.range_size, length-reverse-complement (slice (start_of r) (end_of r) r.target))
 
 at-once-short : (start end : ℕ) (ref alt : List ℕ) (limit : ℕ) (n : Named) → length ref ≤ limit → length alt ≤ limit
-    → replaced_at_once start end ref alt ≡ some n
+    → replaced_at_once start end ref alt ≡ Some n
     → Short limit n
 unfolding replaced_at_once
 at-once-short start end ref alt limit n r a e = go (same_bases ref alt) (eqb (length ref) 1 && eqb (length alt) 1) refl refl
   where
-    both : (x : Named) → some x ≡ some n → Short limit x → Short limit n
+    both : (x : Named) → Some x ≡ Some n → Short limit x → Short limit n
     both x f s =
         let g : x ≡ n = cc in
         subst (Short limit) g s
@@ -144,11 +144,11 @@ at-once-short start end ref alt limit n r a e = go (same_bases ref alt) (eqb (le
     go true c t u = both (record { class = Unchanged; start = start + 1; end = end; reference = ref; alternative = alt }) (rw t at e) (r, a)
     go false true t u = both (record { class = Replacement; start = start + 1; end = start + 1; reference = ref; alternative = alt }) (rw (t, u) at e) (r, a)
     go false false t u =
-        let f : none ≡ some n = rw (t, u) at e in
+        let f : None ≡ Some n = rw (t, u) at e in
         let z : ◌≡◌ {A = ℕ} 0 1 = cc in
         absurd (omega arith)
 
-shortcut-short : (e : Edit) (r : Request) (n : Named) → Sound r → length (read_alternative e r.alternative) ≤ longest_allele → answered_at_once e r ≡ some n
+shortcut-short : (e : Edit) (r : Request) (n : Named) → Sound r → length (read_alternative e r.alternative) ≤ longest_allele → answered_at_once e r ≡ Some n
     → Short longest_allele n
 unfolding answered_at_once read_alternative
 shortcut-short Insert r n s a e = absurd (none-some e)
@@ -175,4 +175,4 @@ answer-short r a e = go (route r (piece_of r) a (accepted-in r a e))
     go (moved p n f g h) =
         let b = spelled-short (edit_of r.edit_code) r s s.alternative_size in
         normal-short (direction_of r.direction_code) (kind_of r.kind_code) p r.target (change_of r) longest_allele a.what s.nonempty b.0 b.1
-        (g ∙ ap some (moved-what r p n a h))
+        (g ∙ ap Some (moved-what r p n a h))

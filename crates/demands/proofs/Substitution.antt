@@ -2,7 +2,7 @@
 use mathlib.Core.Path.{◌≡◌, refl, sym, ap, ◌∙◌}
 use mathlib.Core.Bool.{false}
 use mathlib.Core.List.{List, [], ◌∷◌, ◌++◌, append_assoc}
-use mathlib.Core.Option.{some}
+use Rattle.std.specs.Prelude.{Some}
 use Prim.Native.Nat.{ℕ, ◌+◌, ◌≤◌, min}
 use native.Mathlib.Omega.{arith}
 use borrow.Author.Tests.{ne_eqb}
@@ -64,7 +64,7 @@ module _ (direction : Direction) (target : List ℕ) (at end x y : ℕ) (fits : 
   one-leaves Rightward piece = refl
   one-leaves Leftward piece = refl
 
-  one-named : (kind : Kind) (piece : Piece) → named_at direction kind piece target at (x ∷ []) (y ∷ []) ≡ some (replaced_by at (x ∷ []) (y ∷ []))
+  one-named : (kind : Kind) (piece : Piece) → named_at direction kind piece target at (x ∷ []) (y ∷ []) ≡ Some (replaced_by at (x ∷ []) (y ∷ []))
   unfolding named_at named named_replacement is_inversion first_base_rule last_base_rule
   one-named kind piece =
       let first : eqb (at + 1) 0 ≡ false = ne_eqb (at + 1) 0 (omega arith) in
@@ -72,7 +72,7 @@ module _ (direction : Direction) (target : List ℕ) (at end x y : ℕ) (fits : 
       rw (one-leaves direction piece, first, last, and-false (has_last_base_rule kind))
 
   pub one-normal : (kind : Kind) (piece : Piece)
-      → normal direction kind piece target (altered target one) (trimmed direction target one) ≡ some (replaced_by at (x ∷ []) (y ∷ []))
+      → normal direction kind piece target (altered target one) (trimmed direction target one) ≡ Some (replaced_by at (x ∷ []) (y ∷ []))
   unfolding normal normal_at place_of is_pure
   one-normal kind piece =
       let here : slice at (at + 1) target ≡ x ∷ [] = rw one-wide at reads in

@@ -1,7 +1,7 @@
--- Demand 1. Any request gets an answer or one of 01's refusals, exactly when its row says so and no earlier row does; a refusal returns its
+-- Demand 1. Any request gets an answer or one of the refusals of docs/RULES.md, exactly when its row says so and no earlier row does; a refusal returns its
 -- number and zeros and touches no buffer. That the demand is met is shown in proofs/Refusals. Assumes nothing.
 use Rattle.std.specs.Prelude.{◌≡◌, ◌↔◌, Bool, true, false, not, ◌&&◌, ◌||◌, List, [], ◌∷◌, ◌++◌, ℕ, ◌-◌, ◌+◌, eqb, ltb}
-use Rattle.std.proofs.Math.Option.{Option, none, some}
+use Rattle.std.specs.Prelude.{Option, None, Some}
 use Rattle.std.proofs.Math.Seq.{slice}
 use Rattle.definition.specs.declared.Kind.{Kind}
 use Rattle.definition.specs.declared.Kind.TheVariants.{Open, Transcript, Crossing}
@@ -10,11 +10,7 @@ use Rattle.definition.specs.declared.Bound.TheVariants.{Absent, At, Negative}
 use Rattle.definition.specs.declared.Refusal.{Refusal}
 use Rattle.definition.specs.declared.Refusal.TheVariants.{ExonNotFoundForStart, ExonNotFoundForEnd, ExonIntronBoundary}
 use Rattle.definition.specs.declared.Refusal.TheVariants.{UtrExonBoundary, VariantSpanOutsideSequenceBounds}
-use Rattle.definition.specs.declared.PieceFound.{PieceFound}
-use Rattle.definition.specs.declared.PieceFound.TheVariants.{InPiece, NoPiece}
 use Rattle.definition.specs.declared.Exon.{Exon}
-use Rattle.definition.specs.declared.ExonFound.{ExonFound}
-use Rattle.definition.specs.declared.ExonFound.TheVariants.{Holding, NoExon}
 use Rattle.definition.specs.Change.{altered, trimmed}
 use Rattle.definition.specs.Request.{Request, kind_of, edit_of, direction_of, bound_of, start_of, end_of, change_of}
 use Rattle.definition.specs.Piece.{pieces_of, exon_holding}
@@ -22,17 +18,19 @@ use Rattle.definition.specs.Place.{place_of}
 use Rattle.definition.specs.Answer.{Named, leaves_target}
 use Rattle.definition.specs.Verdict.{Row, rows, verdict, refused, answered_at_once, piece_of}
 use Rattle.definition.specs.Reply.{reply, refusal_number}
+use Rattle.definition.specs.declared.Piece.{Piece}
+use Rattle.std.specs.Prelude.{Err, None, Ok, Option, Result, Some}
 
 -- rows 12 and 13: no exon was found
-unfoldable pub missing : ExonFound → Bool
-missing NoExon = true
-missing (Holding x) = false
+unfoldable pub missing : Option Exon → Bool
+missing None = true
+missing (Some x) = false
 
 -- row 14: the two exons differ
-unfoldable pub differ : ExonFound → ExonFound → Bool
-differ (Holding x) (Holding y) = not (eqb x.start.0 y.start.0 && eqb x.end.0 y.end.0)
-differ (Holding x) NoExon = false
-differ NoExon y = false
+unfoldable pub differ : Option Exon → Option Exon → Bool
+differ (Some x) (Some y) = not (eqb x.start.0 y.start.0 && eqb x.end.0 y.end.0)
+differ (Some x) None = false
+differ None y = false
 
 -- row 15: the range has bases on both sides of the bound
 unfoldable pub on_both_sides : Bound → ℕ → ℕ → Bool
@@ -52,9 +50,9 @@ piece_rows Transcript exons cds_start cds_end start end =
 piece_rows Crossing exons cds_start cds_end start end = []
 
 -- row 16, asked of the change at its final place in its piece
-unfoldable pub span_rows : Request → PieceFound → List Row
-span_rows r (NoPiece x) = []
-span_rows r (InPiece p) =
+unfoldable pub span_rows : Request → Result Piece Refusal → List Row
+span_rows r (Err x) = []
+span_rows r (Ok p) =
     let direction = direction_of r.direction_code in
     let after = altered r.target (change_of r) in
     let t = trimmed direction r.target (change_of r) in
@@ -67,10 +65,10 @@ span_rows r (InPiece p) =
 
 -- the two requests that are answered between rows 10 and 12 are asked no later row
 unfoldable pub unless_at_once : Option Named → List Row → List Row
-unless_at_once none later = later
-unless_at_once (some n) later = []
+unless_at_once None later = later
+unless_at_once (Some n) later = []
 
--- 01's table for a request: rows 1 to 10, then 12 to 16
+-- the table of refusals for a request: rows 1 to 10, then 12 to 16
 unfoldable pub table : Request → List Row
 table r =
     rows r

@@ -1,16 +1,16 @@
 -- Demand 2. What an accepted answer is: the altered sequence is kept, a trimmed insertion or deletion moves to the furthest equivalent place
 -- inside piece and target, class and probes follow the rules. That the demand is met is shown in proofs/Answers. Assumes nothing.
 use Rattle.std.specs.Prelude.{◌≡◌, ◌⊎◌, true, false, List, ℕ, ◌+◌}
-use Rattle.std.proofs.Math.Option.{some}
+use Rattle.std.specs.Prelude.{Some}
 use Rattle.std.proofs.Math.Seq.{slice}
 use Rattle.definition.specs.declared.Direction.{Direction}
-use Rattle.definition.specs.declared.PieceFound.TheVariants.{InPiece}
 use Rattle.definition.specs.declared.Piece.{Piece}
 use Rattle.definition.specs.Change.{splice, Trimmed, trimmed}
 use Rattle.definition.specs.Request.{Request, kind_of, edit_of, direction_of, change_of, altered_by}
 use Rattle.definition.specs.Place.{Equivalent, Inside, NotFurther, is_pure, probes_of}
 use Rattle.definition.specs.Answer.{named, first_base_rule, last_base_rule, denoted}
 use Rattle.definition.specs.Verdict.{Answer, answered, verdict, answered_at_once, piece_of}
+use Rattle.std.specs.Prelude.{Ok}
 
 -- a trimmed change at its final place q
 pub record Settled (direction : Direction) (piece : Piece) (target after : List ℕ) (t : Trimmed) (q : ℕ) : Type 0 where
@@ -28,7 +28,7 @@ pub record Settled (direction : Direction) (piece : Piece) (target after : List 
 pub record Moved (r : Request) (a : Answer) : Type 0 where
   pub piece : Piece
   pub place : ℕ
-  pub found : piece_of r ≡ InPiece piece
+  pub found : piece_of r ≡ Ok piece
   pub settled : Settled (direction_of r.direction_code) piece r.target (altered_by r) (trimmed (direction_of r.direction_code) r.target (change_of r)) place
   -- class, range and alleles are those of the change at that place, after both end rules
   pub what : a.what
@@ -42,7 +42,7 @@ pub record Moved (r : Request) (a : Answer) : Type 0 where
 
 -- an answer given between rows 10 and 12
 pub record AtOnce (r : Request) (a : Answer) : Type 0 where
-  pub what : answered_at_once (edit_of r.edit_code) r ≡ some a.what
+  pub what : answered_at_once (edit_of r.edit_code) r ≡ Some a.what
   pub probes : a.probes ≡ 0
 
 pub record Demand2 : Type 0 where

@@ -2,10 +2,10 @@
 -- both ranges in one piece: their answers agree in class, range and alleles exactly when their altered sequences are equal.
 -- That the demand is met is shown in proofs/OneKey. Assumes nothing.
 use Rattle.std.specs.Prelude.{◌≡◌, ◌↔◌}
-use Rattle.definition.specs.declared.PieceFound.TheVariants.{InPiece}
 use Rattle.definition.specs.declared.Piece.{Piece}
 use Rattle.definition.specs.Request.{Request, altered_by}
 use Rattle.definition.specs.Verdict.{Answer, answered, verdict, piece_of}
+use Rattle.std.specs.Prelude.{Ok}
 
 -- one target, equal tables, kind and direction. Windows, edits, ranges and alternatives are free
 pub record OneSetting (r s : Request) : Type 0 where
@@ -19,8 +19,8 @@ pub record OneSetting (r s : Request) : Type 0 where
 -- one piece holds both ranges
 pub record OnePiece (r s : Request) : Type 0 where
   pub piece : Piece
-  pub first : piece_of r ≡ InPiece piece
-  pub second : piece_of s ≡ InPiece piece
+  pub first : piece_of r ≡ Ok piece
+  pub second : piece_of s ≡ Ok piece
 
 pub record Demand3 : Type 0 where
   pub one_key : (r s : Request) (a b : Answer) → OneSetting r s → OnePiece r s

@@ -18,7 +18,7 @@ use Rattle.definition.specs.declared.Refusal.TheVariants.{
   UtrExonBoundary,
   VariantSpanOutsideSequenceBounds,
 }
-use Rattle.text.specs.Text.{ascii}
+use Rattle.asking.specs.Text.{ascii}
 
 -- what to change, in a sentence
 unfoldable pub advice_text : Refusal → List ℕ

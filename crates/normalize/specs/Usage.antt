@@ -1,6 +1,6 @@
 -- What --help prints. Assumes nothing.
 use Rattle.std.specs.Prelude.{ℕ, List, ◌++◌}
-use Rattle.text.specs.Text.{ascii}
+use Rattle.asking.specs.Text.{ascii}
 
 unfoldable pub usage_text : List ℕ
 usage_text =

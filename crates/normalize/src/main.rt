@@ -5,31 +5,21 @@ mod advice;
 mod paths;
 mod usage;
 
-ghost use Rattle.std.specs.Prelude.{◌≡◌, length};
+ghost use Rattle.std.specs.Prelude.{◌≤◌, length, IfOk};
 
-use asking::Reached;
-use definition::{Answered, Outcome};
-use problems::Problem;
+use asking::problems::{Problem, Unread};
+use asking::terminal::Page;
+use asking::{lines, problems, reading, refusals, runs, text, values};
+use definition::{ANSWER_ROOM, Answered, Outcome};
 use std::env::FillError;
 use std::io::Read;
 use std::rt::{Env, Files};
 use std::{fs, io, str};
-use targets::File;
-
-// What gathering the arguments came to: words, each ended by a byte 0.
-#[derive(Drop)]
-enum Gathered {
-    Words(usize),
-    TooLong,
-}
 
 // Puts an argument, and the byte 0 that ends it, into a text from an index on; the index behind both.
-fn put_argument(
-    rt: &impl Env,
-    index: usize,
-    text: &mut [u8],
-    at: usize,
-) -> Result<usize, FillError> {
+fn put_argument(rt: &impl Env, index: usize, text: &mut [u8], at: usize) -> Result<usize, FillError>
+    ensures { IfOk result (λ end. end ≤ length text.new) }
+{
     if text.len() < at {
         return Err(FillError::TooLong);
     }
@@ -42,17 +32,19 @@ fn put_argument(
     Ok(end + 1)
 }
 
-// Every argument but the program's own name.
-fn gather(rt: &impl Env, text: &mut [u8]) -> Gathered {
+// Every argument but the program's own name, each ended by a byte 0; how many bytes they are. Too long where the text has no room for them.
+fn gather(rt: &impl Env, text: &mut [u8]) -> Result<usize, FillError>
+    ensures { IfOk result (λ size. size ≤ length text.new) }
+{
     let mut size = 0;
     for i in 1..usize::MAX {
         match put_argument(rt, i, text, size) {
             Ok(next) => size = next,
             Err(FillError::NotPresent) => break,
-            Err(FillError::TooLong) => return Gathered::TooLong,
+            Err(error) => return Err(error),
         }
     }
-    Gathered::Words(size)
+    Ok(size)
 }
 
 // What is left of a file after its first bytes: a byte more where it is too long, an error where it can't be read.
@@ -62,188 +54,111 @@ fn rest_of(file: &mut impl Read) -> io::Result<usize> {
 }
 
 // The bytes of the file at a path, at the front of those that are lent. No path is that of no file.
-fn read_file(rt: &impl Files, path: &[u8], bytes: &mut [u8]) -> File {
-    let Ok(path) = str::from_utf8(path) else {
-        return File::Unreadable;
-    };
-    let Ok(mut file) = fs::open(rt, path) else {
-        return File::Unreadable;
-    };
+fn read_file<'a>(rt: &impl Files, path: &[u8], bytes: &'a mut [u8]) -> Result<&'a [u8], Unread> {
+    let path = str::from_utf8(path).map_err(|_| Unread::Unreadable)?;
+    let mut file = fs::open(rt, path).map_err(|_| Unread::Unreadable)?;
     let size = reading::read_full(&mut file, bytes);
     match rest_of(&mut file) {
-        Ok(0) => File::Read(size),
-        Ok(_) => File::TooLong,
-        Err(_) => File::Unreadable,
+        Ok(0) => Ok(text::part(bytes, 0, size)),
+        Ok(_) => Err(Unread::LongFile),
+        Err(_) => Err(Unread::Unreadable),
     }
 }
 
-fn put_class_line(page: &mut [u8], used: usize, answer: Answered) -> usize {
-    let class = answer.class;
-    let titled = terminal::put(page, used, b"class        ");
-    let numbered = digits::put_number(page, titled, numbers::class_number(class) as usize);
-    let spaced = terminal::put_byte(page, numbered, b' ');
-    let named = values::put_class(page, spaced, class);
-    let ended = terminal::put(page, named, b"\nrange        ");
-    values::put_range(page, ended, answer.start.0, answer.end.0)
-}
-
-// The name of an allele, and the allele.
-fn put_allele_line(page: &mut [u8], used: usize, name: &[u8], buffer: &[u8], size: usize) -> usize {
-    let named = terminal::put(page, used, name);
-    values::put_allele(page, named, buffer, size)
-}
-
 // An answer on five lines.
-fn put_answer(
-    page: &mut [u8],
-    used: usize,
-    answer: Answered,
-    reference: &[u8],
-    alternative: &[u8],
-) -> usize {
-    let ranged = put_class_line(page, used, answer);
-    let before = put_allele_line(
-        page,
-        ranged,
-        b"\nreference    ",
-        reference,
-        answer.reference_size,
-    );
-    let after = put_allele_line(
-        page,
-        before,
-        b"\nalternative  ",
-        alternative,
-        answer.alternative_size,
-    );
-    let titled = terminal::put(page, after, b"\nprobes       ");
-    digits::put_number(page, titled, answer.probes)
+fn put_answer(page: &mut Page, answer: Answered, reference: &[u8], alternative: &[u8]) {
+    page.put(b"class        ");
+    page.put_number(answer.class.number() as usize);
+    page.put(b" ");
+    values::put_class(page, answer.class);
+    page.put(b"\nrange        ");
+    values::put_range(page, answer.start.0, answer.end.0);
+    page.put(b"\nreference    ");
+    values::put_allele(page, reference, answer.reference_size);
+    page.put(b"\nalternative  ");
+    values::put_allele(page, alternative, answer.alternative_size);
+    page.put(b"\nprobes       ");
+    page.put_number(answer.probes);
 }
 
-fn put_outcome(
-    page: &mut [u8],
-    used: usize,
-    outcome: Outcome,
-    reference: &[u8],
-    alternative: &[u8],
-) -> usize {
+fn put_outcome(page: &mut Page, outcome: Outcome, reference: &[u8], alternative: &[u8]) {
     match outcome {
-        Outcome::Answer(answer) => put_answer(page, used, answer, reference, alternative),
-        Outcome::Refuse(refusal) => {
-            let refused = refusals::put_refusal(page, used, refusal);
-            let parted = terminal::put(page, refused, b": ");
-            advice::put_advice(page, parted, refusal)
+        Ok(answer) => put_answer(page, answer, reference, alternative),
+        Err(refusal) => {
+            refusals::put_refusal(page, refusal);
+            page.put(b": ");
+            page.put(advice::advice(refusal).as_bytes());
         }
     }
 }
 
 // What is said where words reach no outcome: the usage where they ask for it.
-fn put_problem(page: &mut [u8], used: usize, text: &[u8], problem: Problem) -> usize {
-    if let Problem::Wrong(_, at) = problem {
-        if check::same(lines::word(text, at), b"--help") {
-            return usage::put_usage(page, used);
+fn put_problem(page: &mut Page, text: &[u8], problem: Problem) {
+    match problem {
+        Problem::Wrong(_, at) if lines::word(text, at) == b"--help".as_slice() => {
+            page.put(usage::usage().as_bytes());
         }
+        _ => problems::put_problem(page, text, problem),
     }
-    problems::put_problem(page, used, text, problem)
 }
 
 // What the words of a text reach, where the file that they name is read so.
-fn put_reached(page: &mut [u8], used: usize, text: &[u8], file: File, bytes: &[u8]) -> usize {
-    let mut reference_space = [0u8; 1025];
-    let mut alternative_space = [0u8; 1025];
-    let reference: &mut [u8] = &mut reference_space;
-    let alternative: &mut [u8] = &mut alternative_space;
-    match asking::ask(text, file, bytes, reference, alternative) {
-        Reached::Outcome(outcome) => put_outcome(page, used, outcome, reference, alternative),
-        Reached::Problem(problem) => put_problem(page, used, text, problem),
+fn put_reached(page: &mut Page, text: &[u8], file: Result<&[u8], Unread>) {
+    let mut reference = [0u8; ANSWER_ROOM];
+    let mut alternative = [0u8; ANSWER_ROOM];
+    match asking::ask(text, file, &mut reference, &mut alternative) {
+        Ok(outcome) => put_outcome(page, outcome, &reference, &alternative),
+        Err(problem) => put_problem(page, text, problem),
     }
 }
 
 // A request as it is typed behind the tool's name, and what it reaches.
-fn put_example(page: &mut [u8], used: usize, typed: &[u8]) -> usize {
+fn put_example(page: &mut Page, typed: &[u8]) {
     let mut space = [0u8; 256];
-    let words: &mut [u8] = &mut space;
-    let filled = runs::expand(typed, 0, words, 0);
-    let size = terminal::put_byte(words, filled, 0);
-    let named = terminal::put(page, used, b"\nnormalize ");
-    let asked = terminal::put(page, named, typed);
-    let begun = terminal::put_byte(page, asked, b'\n');
-    let reached = put_reached(
-        page,
-        begun,
-        text::part(words, 0, size),
-        File::Unreadable,
-        b"",
-    );
-    terminal::put_byte(page, reached, b'\n')
+    let mut words = Page::new(&mut space);
+    runs::expand(typed, 0, &mut words);
+    words.put_byte(0);
+    page.put(b"\nnormalize ");
+    page.put(typed);
+    page.put(b"\n");
+    put_reached(page, words.text(), Err(Unread::Unreadable));
+    page.put(b"\n");
 }
 
 // One deletion in a run of equal bases, spelled at the run's first base and at its last.
-fn put_examples(page: &mut [u8]) -> usize {
-    let told = terminal::put(
-        page,
-        0,
-        b"One change has one key, its class, range and alleles, wherever it is spelled:\n",
-    );
-    let first = put_example(page, told, b"--target CAAATGGTACCA --edit del --range 1 2");
-    let last = put_example(page, first, b"--target CAAATGGTACCA --edit del --range 3 4");
-    terminal::put(
-        page,
-        last,
-        b"\nnormalize --help tells how to ask for a change of your own.\n",
-    )
-}
-
-// Room for the bytes of a file.
-fn file_room() -> [u8; 262144]
-    ensures { 262144 ≡ length result }
-{
-    [0; 262144]
+fn put_examples(page: &mut Page) {
+    page.put(b"One change has one key, its class, range and alleles, wherever it is spelled:\n");
+    put_example(page, b"--target CAAATGGTACCA --edit del --range 1 2");
+    put_example(page, b"--target CAAATGGTACCA --edit del --range 3 4");
+    page.put(b"\nnormalize --help tells how to ask for a change of your own.\n");
 }
 
 // What is said to words: the examples where there is none. A file that they name may have 262,144 bytes.
-fn put_reply(rt: &impl Files, page: &mut [u8], text: &[u8]) -> usize {
-    if text.len() == 0 {
+fn put_reply(rt: &impl Files, page: &mut Page, text: &[u8]) {
+    if text.is_empty() {
         return put_examples(page);
     }
-    let mut space = file_room();
-    let bytes: &mut [u8] = &mut space;
-    let file = read_file(rt, paths::path_of(text), bytes);
-    let reached = put_reached(page, 0, text, file, bytes);
-    terminal::put_byte(page, reached, b'\n')
-}
-
-// Room for the arguments.
-fn words_room() -> [u8; 131072]
-    ensures { 131072 ≡ length result }
-{
-    [0; 131072]
+    let mut bytes = [0u8; 262144];
+    let file = read_file(rt, paths::path_of(text), &mut bytes);
+    put_reached(page, text, file);
+    page.put(b"\n");
 }
 
 // What is said to the arguments.
-fn put_all(rt: &(impl Env + Files), page: &mut [u8]) -> usize {
-    let mut space = words_room();
-    let text: &mut [u8] = &mut space;
-    match gather(rt, text) {
-        Gathered::Words(size) => put_reply(rt, page, text::part(text, 0, size)),
-        Gathered::TooLong => terminal::put(
-            page,
-            0,
+fn put_all(rt: &(impl Env + Files), page: &mut Page) {
+    let mut text = [0u8; 131072];
+    match gather(rt, &mut text) {
+        Ok(size) => put_reply(rt, page, &text[..size]),
+        Err(_) => page.put(
             b"The arguments have more than 131072 bytes. Give the target by --file.\n",
         ),
     }
 }
 
-// A page that has room for the longest argument, of fewer than 131,072 bytes, in a sentence.
-fn page_room() -> [u8; 135168]
-    ensures { 135168 ≡ length result }
-{
-    [0; 135168]
-}
-
+// The page has room for the longest argument, of fewer than 131,072 bytes, in a sentence.
 fn main(rt: HostRuntime) -> io::Result<()> {
-    let mut space = page_room();
-    let page: &mut [u8] = &mut space;
-    let used = put_all(&rt, page);
-    rt.write_all(text::part(page, 0, used))
+    let mut space = [0u8; 135168];
+    let mut page = Page::new(&mut space);
+    put_all(&rt, &mut page);
+    rt.write_all(page.text())
 }

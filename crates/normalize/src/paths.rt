@@ -2,7 +2,7 @@
 ghost use Rattle.std.specs.Prelude.{◌≡◌};
 ghost use Rattle.normalize.specs.Paths.{path_of};
 
-use requests::Asked;
+use asking::requests;
 
 // The path of the file that words name: empty where they name none.
 #[tactic(auto, unfolding(crate::specs::Paths::path_of))]
@@ -10,7 +10,7 @@ pub(crate) fn path_of(text: &[u8]) -> &[u8]
     ensures { result.now ≡ path_of text.now }
 {
     match requests::request_of(text) {
-        Asked::Whole(request) => lines::word(text, request.words.file),
-        Asked::Broken(_, _) => text::part(text, 0, 0),
+        Ok(request) => requests::given(text, request.words.file),
+        Err(_) => &text[..0],
     }
 }

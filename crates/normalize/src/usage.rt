@@ -1,14 +1,12 @@
 // What --help prints.
-ghost use Rattle.terminal.specs.Page.{Put};
+ghost use Rattle.std.specs.Prelude.{◌≡◌};
 ghost use Rattle.normalize.specs.Usage.{usage_text};
 
-pub(crate) fn put_usage(page: &mut [u8], used: usize) -> usize
-    ensures { Put page.old used usage_text page.new result }
+#[tactic(auto, unfolding(crate::specs::Usage::usage_text))]
+pub(crate) fn usage() -> &'static str
+    ensures { result.now ≡ usage_text }
 {
-    terminal::put(
-        page,
-        used,
-        b"normalize: the normal form of one change of a sequence.
+    "normalize: the normal form of one change of a sequence.
 
   normalize                 two examples
   normalize --help          this text
@@ -34,6 +32,5 @@ Where it may move
 The answer is its class, its range counted from 1 with both ends in it, both alleles with - for an empty one, and the probes, which are
 the pairs of bases that were compared. Or it is a refusal: its number, its name, and what to change.
 
-Example: normalize --target CAAATGGTACCA --edit del --range 1 2",
-    )
+Example: normalize --target CAAATGGTACCA --edit del --range 1 2"
 }

@@ -7,8 +7,6 @@ use Prim.Native.Nat.{ℕ}
 use native.Mathlib.Omega.{arith}
 use lib.ListN.{length, take}
 use Rattle.definition.specs.declared.Answered.{Answered}
-use Rattle.definition.specs.declared.Outcome.{Outcome}
-use Rattle.definition.specs.declared.Outcome.TheVariants as outcome
 use Rattle.definition.specs.declared.Refusal.{Refusal}
 use Rattle.definition.specs.Request.{Request, altered_by}
 use Rattle.definition.specs.Answer.{Named, denoted}
@@ -20,10 +18,11 @@ use Rattle.demands.specs.Demand3.{OneSetting, OnePiece}
 use Rattle.demands.proofs.Refusals.{demand-1}
 use Rattle.demands.proofs.Answers.{demand-2}
 use Rattle.demands.proofs.OneKey.{demand-3}
-use Rattle.spelling.proofs.Spells.{read_back}
+use Rattle.normalizer.proofs.Spells.{read_back}
+use Rattle.std.specs.Prelude.{Err, Ok, Result}
 
 -- a refusal is a refusal of the definition, and an answer is one
-refused-only : (v : Verdict) (x : Refusal) → outcome.Refuse x ≡ outcome_of v → v ≡ refused x
+refused-only : (v : Verdict) (x : Refusal) → Err x ≡ outcome_of v → v ≡ refused x
 unfolding outcome_of
 refused-only (refused y) x e =
     let f : y ≡ x = cc in
@@ -42,7 +41,7 @@ numbers_of a = record {
   alternative_size = length a.what.alternative;
 }
 
-answered-only : (v : Verdict) (n : Answered) → outcome.Answer n ≡ outcome_of v → (a : Answer) × (v ≡ answered a) × (n ≡ numbers_of a)
+answered-only : (v : Verdict) (n : Answered) → Ok n ≡ outcome_of v → (a : Answer) × (v ≡ answered a) × (n ≡ numbers_of a)
 unfolding outcome_of
 answered-only (refused y) n e =
     let z : ◌≡◌ {A = ℕ} 0 1 = cc in
@@ -51,17 +50,17 @@ answered-only (answered a) n e =
     let f : n ≡ numbers_of a = cc in
     (a, refl, f)
 
-module _ (request : Request) (result : Outcome) (reference reference' alternative alternative' : List ℕ)
+module _ (request : Request) (result : Result Answered Refusal) (reference reference' alternative alternative' : List ℕ)
     (m : Met (verdict request) result reference reference' alternative alternative') where
   -- demand 1: a refusal is given exactly if its row says so and no earlier row does, and touches no buffer
-  pub refused-exactly : (x : Refusal) → (result ≡ outcome.Refuse x) ↔ FirstSaid x (table request)
+  pub refused-exactly : (x : Refusal) → (result ≡ Err x) ↔ FirstSaid x (table request)
   unfolding outcome_of
   refused-exactly x = (
     (λ e. (demand-1.exactly request x).0 (refused-only (verdict request) x (sym e ∙ m.numbers))),
     (λ f. m.numbers ∙ ap outcome_of ((demand-1.exactly request x).1 f)),
   )
 
-  pub refused-untouched : (x : Refusal) → result ≡ outcome.Refuse x → (reference' ≡ reference) × (alternative' ≡ alternative)
+  pub refused-untouched : (x : Refusal) → result ≡ Err x → (reference' ≡ reference) × (alternative' ≡ alternative)
   unfolding reference_out alternative_out written
   refused-untouched x e =
       let v : verdict request ≡ refused x = refused-only (verdict request) x (sym e ∙ m.numbers) in (
@@ -79,7 +78,7 @@ module _ (request : Request) (result : Outcome) (reference reference' alternativ
     pub reference_bases : take n.reference_size reference' ≡ answer.what.reference
     pub alternative_bases : take n.alternative_size alternative' ≡ answer.what.alternative
 
-  pub given : (n : Answered) → result ≡ outcome.Answer n → Given n
+  pub given : (n : Answered) → result ≡ Ok n → Given n
   unfolding reference_out alternative_out
   given n e =
       let o = answered-only (verdict request) n (sym e ∙ m.numbers) in
@@ -110,7 +109,7 @@ key_of n reference alternative = record {
   alternative = take n.alternative_size alternative;
 }
 
-module _ (request : Request) (result : Outcome) (reference reference' alternative alternative' : List ℕ)
+module _ (request : Request) (result : Result Answered Refusal) (reference reference' alternative alternative' : List ℕ)
     (m : Met (verdict request) result reference reference' alternative alternative') where
   key-is : (n : Answered) (g : Given request result reference reference' alternative alternative' m n) → key_of n reference' alternative' ≡ g.answer.what
   key-is n g =
@@ -131,11 +130,11 @@ module _ (request : Request) (result : Outcome) (reference reference' alternativ
 
 -- demand 3, one key: two answers to requests over one target, with equal tables, kind and direction, any windows, that change the sequence inside
 -- one piece, have one key exactly if their altered sequences are equal
-module _ (first second : Request) (r s : Outcome) (a a' b b' c c' d d' : List ℕ)
+module _ (first second : Request) (r s : Result Answered Refusal) (a a' b b' c c' d d' : List ℕ)
     (m : Met (verdict first) r a a' b b') (w : Met (verdict second) s c c' d d') where
   pub one_key : OneSetting first second → OnePiece first second
       → (altered_by first ≡ first.target → ⊥) → (altered_by second ≡ second.target → ⊥)
-      → (n k : Answered) → r ≡ outcome.Answer n → s ≡ outcome.Answer k
+      → (n k : Answered) → r ≡ Ok n → s ≡ Ok k
       → (key_of n a' b' ≡ key_of k c' d') ↔ (altered_by first ≡ altered_by second)
   one_key setting piece changes changes' n k en ek =
       let g = given first r a a' b b' m n en in

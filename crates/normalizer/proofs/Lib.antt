@@ -1,7 +1,21 @@
-pub mod Tests
-pub mod Bounds
 pub mod Answers
 pub mod Rows
 pub mod LaterRows
 pub mod Unique
 pub mod Demands
+pub mod AllelesReadRead
+pub mod AllelesReadUnique
+pub mod EditsUnique
+pub mod LimitsUnique
+pub mod Signed
+pub mod RangesRead
+pub mod RangesUnique
+-- What the proofs share. Assumes nothing.
+pub mod Replied
+pub mod RepliesUnique
+pub mod Ways
+pub mod InPlace
+pub mod ShortcutsUnique
+pub mod Moves
+pub mod Spells
+pub mod SpellingUnique

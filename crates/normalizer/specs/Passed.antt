@@ -2,7 +2,7 @@
 use Rattle.std.specs.Prelude.{not, List, [], ◌∷◌, ℕ, ◌-◌, ◌≤◌, ◌<◌, length}
 use Rattle.definition.specs.declared.Edit.{Edit}
 use Rattle.definition.specs.declared.Kind.{Kind}
-use Rattle.pieces.specs.ReadInOrder.{ReadInOrder}
+use Rattle.boundary.specs.ReadInOrder.{ReadInOrder}
 use Rattle.definition.specs.declared.Bound.{Bound}
 use Rattle.definition.specs.declared.Direction.{Direction}
 use Rattle.definition.specs.declared.Refusal.TheVariants.{BadInsertion, TooLong, BadAllele, NoRoom, BadTables}
@@ -11,7 +11,7 @@ use Rattle.definition.specs.Change.{spelled}
 use Rattle.definition.specs.Piece.{piece_for}
 use Rattle.definition.specs.Verdict.{Row, Verdict, first_given, refused_or, after_shortcuts, shortcut, misfits, exceeds, read_alternative, cramped, tables_broken}
 use Rattle.definition.specs.Bases.{all_bases}
-use Rattle.spelling.specs.Asked.{Read}
+use Rattle.normalizer.specs.SpellingAsked.{Read}
 
 -- a request that passes rows 1 to 10
 pub record Passed (target : List ℕ) (kind : Kind) (exons : List ℕ) (start end : ℕ) (edit : Edit) (alternative : List ℕ) (window : ℕ) : Type 0 where

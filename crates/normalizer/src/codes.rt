@@ -1,10 +1,11 @@
-// The codes and the CDS bounds of a request, and the kind, the edit, the direction and the bounds that they stand for.
+// The codes and the CDS bounds of a request, and the kind, the edit, the direction and the bounds that they stand for. A code is read by a total function
+// and by no TryFrom: row 1 has refused one past the last, and `limits::bad_code` says it of all three codes in one test, as the definition does.
 ghost use Rattle.std.specs.Prelude.{◌≡◌};
 ghost use Rattle.definition.specs.Request.{kind_of, edit_of, direction_of, bound_of};
 
 use definition::{Bound, Direction, Edit, Kind};
 
-// The kind of a target. A code past the last is refused by row 1 before it is read.
+// The kind of a target.
 #[tactic(auto, unfolding(definition::specs::Request::kind_of))]
 pub(crate) fn kind_of(code: u32) -> Kind
     ensures { result ≡ kind_of code }
@@ -16,7 +17,7 @@ pub(crate) fn kind_of(code: u32) -> Kind
     }
 }
 
-// The edit that is asked for. A code past the last is refused by row 1 before it is read.
+// The edit that is asked for.
 #[tactic(auto, unfolding(definition::specs::Request::edit_of))]
 pub(crate) fn edit_of(code: u32) -> Edit
     ensures { result ≡ edit_of code }
@@ -30,7 +31,7 @@ pub(crate) fn edit_of(code: u32) -> Edit
     }
 }
 
-// The direction of the move. A code past the last is refused by row 1 before it is read.
+// The direction of the move.
 #[tactic(auto, unfolding(definition::specs::Request::direction_of))]
 pub(crate) fn direction_of(code: u32) -> Direction
     ensures { result ≡ direction_of code }
@@ -46,11 +47,9 @@ pub(crate) fn direction_of(code: u32) -> Direction
 pub(crate) fn bound_of(number: i64) -> Bound
     ensures { result ≡ bound_of number }
 {
-    if number < -1 {
-        return Bound::Negative;
+    match number {
+        0.. => Bound::At(number as usize),
+        -1 => Bound::Absent,
+        _ => Bound::Negative,
     }
-    if number < 0 {
-        return Bound::Absent;
-    }
-    Bound::At(number as usize)
 }

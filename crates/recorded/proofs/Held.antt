@@ -10,7 +10,7 @@ use lib.Seq.{get_or-append-add, get_or-drop}
 use Rattle.definition.specs.Bases.{same_bases}
 use Rattle.definition.specs.Limits.{answer_room}
 use Rattle.definition.specs.Reply.{written}
-use Rattle.bases.proofs.SameBases.{not_as_long}
+use Rattle.sequences.proofs.SameBases.{not_as_long}
 use Rattle.recorded.specs.Replay.{filled, holds_allele}
 
 pub filled-length : length filled ≡ answer_room

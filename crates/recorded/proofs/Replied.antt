@@ -2,14 +2,16 @@
 use Prim.Native.Nat.{ℕ}
 use mathlib.Core.Path.{◌≡◌}
 use mathlib.Core.List.{List}
-use Rattle.definition.specs.declared.Outcome.{Outcome}
 use Rattle.definition.specs.Verdict.{Verdict, refused, answered}
 use Rattle.definition.specs.Reply.{reply, written, outcome_of, reference_out, alternative_out, Met}
-use Rattle.replies.specs.declared.Answer.{Answer}
-use Rattle.replies.specs.Replied.{answer_of}
+use Rattle.normalizer.specs.declared.replies.Answer.{Answer}
+use Rattle.normalizer.specs.Replied.{answer_of}
 use Rattle.recorded.specs.Replay.{reply_of}
+use Rattle.definition.specs.declared.Answered.{Answered}
+use Rattle.definition.specs.declared.Refusal.{Refusal}
+use Rattle.std.specs.Prelude.{Result}
 
-module _ {reference reference' alternative alternative' : List ℕ} {o : Outcome} {numbers : Answer} (are : numbers ≡ answer_of o) where
+module _ {reference reference' alternative alternative' : List ℕ} {o : Result Answered Refusal} {numbers : Answer} (are : numbers ≡ answer_of o) where
   pub replied : (v : Verdict) → Met v o reference reference' alternative alternative'
       → reply_of numbers reference' alternative' ≡ reply reference alternative v
   unfolding reply outcome_of reference_out alternative_out written answer_of

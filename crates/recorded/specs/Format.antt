@@ -1,10 +1,10 @@
 -- The format of a stored record. Its request: the target, the kind, the exon table, both bounds of the CDS and both ends of the range, the edit,
 -- the alternative, the direction and the window. Its answer: the refusal, the class, the range, the probes and both alleles. A number takes four
 -- bytes, the lowest first, and a bound of the CDS eight; a part is its length and its bytes. Assumes nothing.
-use Rattle.std.specs.Prelude.{ℕ, ◌+◌, ◌*◌, Bool, true, false, cond, ◌&&◌, List, leb, ℤ, length}
+use Rattle.std.specs.Prelude.{ℕ, ◌+◌, ◌*◌, cond, List, leb, ℤ, length, Option, Some, None}
 use Rattle.std.specs.Int.{w32, w64}
 use Rattle.std.proofs.Common.{to_z}
-use Rattle.little_endian.specs.Numbers.{number_at}
+use Rattle.tables.specs.Numbers.{number_at}
 use Rattle.recorded.specs.declared.records.Part.{Part}
 use Rattle.recorded.specs.declared.records.Numbers.{Numbers}
 use Rattle.recorded.specs.declared.records.Request.{Request}
@@ -22,16 +22,11 @@ signed_at file at = to_z w32 (stored_number file at)
 unfoldable pub signed_long_at : List ℕ → ℕ → ℤ
 signed_long_at file at = to_z w64 (stored_number file at + stored_number file (at + 4) * 4294967296)
 
-abbrev pub pick_part : Bool → Part → Part → Part
-pick_part true a b = a
-pick_part false a b = b
-
 -- the part whose length stands at a place, where the file has the whole of it
-unfoldable pub part_at : List ℕ → ℕ → Part
+unfoldable pub part_at : List ℕ → ℕ → Option Part
 part_at file at =
-    pick_part (leb (at + 4 + stored_number file at) (length file))
-    (record { whole = true; from = at + 4; to = at + 4 + stored_number file at })
-    (record { whole = false; from = 0; to = 0 })
+    cond (leb (at + 4 + stored_number file at) (length file))
+    (Some (record { from = at + 4; to = at + 4 + stored_number file at })) None
 
 -- the numbers of a request, by where its target, its exon table and its alternative end
 abbrev pub numbers_at : List ℕ → ℕ → ℕ → ℕ → Numbers
@@ -46,38 +41,51 @@ numbers_at file target exons alternative = record {
   window = stored_number file (alternative + 4);
 }
 
-abbrev pub request_of : List ℕ → Part → Part → Part → Request
-request_of file target exons alternative = record {
-  whole = target.whole && exons.whole && alternative.whole;
-  target = target;
-  exons = exons;
-  alternative = alternative;
-  numbers = numbers_at file target.to exons.to alternative.to;
-  to = alternative.to + 8;
-}
+-- the request whose target, exon table and alternative are these, where the file has the whole of each
+abbrev pub with_alternative : List ℕ → Part → Part → Option Part → Option Request
+with_alternative file target exons None = None
+with_alternative file target exons (Some alternative) =
+    Some
+    (record {
+      target = target;
+      exons = exons;
+      alternative = alternative;
+      numbers = numbers_at file target.to exons.to alternative.to;
+      to = alternative.to + 8;
+    })
+
+abbrev pub with_exons : List ℕ → Part → Option Part → Option Request
+with_exons file target None = None
+with_exons file target (Some exons) = with_alternative file target exons (part_at file (exons.to + 28))
+
+abbrev pub with_target : List ℕ → Option Part → Option Request
+with_target file None = None
+with_target file (Some target) = with_exons file target (part_at file (target.to + 4))
 
 -- the request at a place
-unfoldable pub request_at : List ℕ → ℕ → Request
-request_at file at =
-    let target = part_at file at in
-    let exons = part_at file (target.to + 4) in
-    request_of file target exons (part_at file (exons.to + 28))
+unfoldable pub request_at : List ℕ → ℕ → Option Request
+request_at file at = with_target file (part_at file at)
 
-abbrev pub stored_of : List ℕ → ℕ → Part → Part → Stored
-stored_of file at reference alternative = record {
-  whole = reference.whole && alternative.whole;
-  refusal = stored_number file at;
-  class = stored_number file (at + 4);
-  start = stored_number file (at + 8);
-  end = stored_number file (at + 12);
-  probes = stored_number file (at + 16);
-  reference = reference;
-  alternative = alternative;
-  to = alternative.to;
-}
+-- the answer whose numbers begin at a place, and whose alleles are these, where the file has the whole of each
+abbrev pub with_second : List ℕ → ℕ → Part → Option Part → Option Stored
+with_second file at reference None = None
+with_second file at reference (Some alternative) =
+    Some
+    (record {
+      refusal = stored_number file at;
+      class = stored_number file (at + 4);
+      start = stored_number file (at + 8);
+      end = stored_number file (at + 12);
+      probes = stored_number file (at + 16);
+      reference = reference;
+      alternative = alternative;
+      to = alternative.to;
+    })
+
+abbrev pub with_first : List ℕ → ℕ → Option Part → Option Stored
+with_first file at None = None
+with_first file at (Some reference) = with_second file at reference (part_at file reference.to)
 
 -- the stored answer at a place
-unfoldable pub stored_at : List ℕ → ℕ → Stored
-stored_at file at =
-    let reference = part_at file (at + 20) in
-    stored_of file at reference (part_at file reference.to)
+unfoldable pub stored_at : List ℕ → ℕ → Option Stored
+stored_at file at = with_first file at (part_at file (at + 20))

@@ -6,8 +6,8 @@ use Rattle.definition.specs.Request as definition
 use Rattle.definition.specs.Verdict.{verdict}
 use Rattle.definition.specs.Reply.{Reply, reply, written}
 use Rattle.normalizer.specs.Asked.{asked}
-use Rattle.replies.specs.declared.Answer.{Answer}
-use Rattle.text.specs.Text.{part_of}
+use Rattle.normalizer.specs.declared.replies.Answer.{Answer}
+use Rattle.asking.specs.Text.{part_of}
 use Rattle.recorded.specs.declared.replays.Compared.{Compared}
 use Rattle.recorded.specs.declared.records.Part.{Part}
 use Rattle.recorded.specs.declared.records.Request.{Request}

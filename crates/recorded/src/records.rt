@@ -1,17 +1,16 @@
 // The records of stored answers: where each part of a record lies among the file's bytes. Every length that the file gives is tested before it
 // ends a part.
-ghost use Rattle.std.specs.Prelude.{◌≡◌, ◌≤◌, length};
+ghost use Rattle.std.specs.Prelude.{◌≡◌, ◌≤◌, length, IfSome};
 ghost use Rattle.recorded.specs.Format.{stored_number, signed_at, signed_long_at, part_at, numbers_at, request_at, stored_at};
 
-use little_endian::number_at;
+use tables::little_endian::number_at;
 
 // The most bytes that a file may have.
 pub const MOST: usize = 524288;
 
-// The bytes of a file from one place up to another; `whole` is false where the file ends before them.
+// The bytes of a file from one place up to another.
 #[derive(Clone, Copy)]
 pub struct Part {
-    pub whole: bool,
     pub from: usize,
     pub to: usize,
 }
@@ -32,7 +31,6 @@ pub struct Numbers {
 // The request of a record, and the place behind it.
 #[derive(Clone, Copy)]
 pub struct Request {
-    pub whole: bool,
     pub target: Part,
     pub exons: Part,
     pub alternative: Part,
@@ -43,7 +41,6 @@ pub struct Request {
 // The answer of a record, and the place behind it.
 #[derive(Clone, Copy)]
 pub struct Stored {
-    pub whole: bool,
     pub refusal: u32,
     pub class: u32,
     pub start: u32,
@@ -73,11 +70,7 @@ pub fn number(file: &[u8], at: usize) -> u32
 fn signed_at(file: &[u8], at: usize) -> i32
     ensures { result ≡ signed_at file.now at }
 {
-    let bits = number(file, at);
-    if bits < 2147483648 {
-        return bits as i32;
-    }
-    !((4294967295 - bits) as i32)
+    number(file, at).cast_signed()
 }
 
 // The number that eight bytes spell, with a sign.
@@ -87,37 +80,25 @@ fn signed_long_at(file: &[u8], at: usize) -> i64
     ensures { result ≡ signed_long_at file.now at }
 {
     let bits = number(file, at) as u64 + number(file, at + 4) as u64 * 4294967296;
-    if bits < 9223372036854775808 {
-        return bits as i64;
-    }
-    !((18446744073709551615 - bits) as i64)
+    bits.cast_signed()
 }
 
-// The part whose length stands at a place.
+// The part whose length stands at a place, where the file has the whole of it.
 #[tactic(auto, unfolding(crate::specs::Format::part_at, crate::specs::Format::stored_number))]
-fn part_at(file: &[u8], at: usize) -> Part
+fn part_at(file: &[u8], at: usize) -> Option<Part>
     requires { length file.now ≤ 524288 }
     ensures value { result ≡ part_at file.now at }
-    ensures to_in_bounds { result.to ≤ length file.now }
+    ensures to_in_bounds { IfSome result (λ part. part.to ≤ length file.now) }
 {
-    let cut = Part {
-        whole: false,
-        from: 0,
-        to: 0,
-    };
     if file.len() < at {
-        return cut;
+        return None;
     }
     let from = at + 4;
     let to = from + number(file, at) as usize;
     if file.len() < to {
-        return cut;
+        return None;
     }
-    Part {
-        whole: true,
-        from: from,
-        to: to,
-    }
+    Some(Part { from, to })
 }
 
 // The numbers of a request, which stand behind its target, its exon table and its alternative.
@@ -138,44 +119,42 @@ fn numbers_at(file: &[u8], target_to: usize, exons_to: usize, alternative_to: us
     }
 }
 
-// The request at a place of a file.
+// The request at a place of a file: none where the file ends within it.
 #[tactic(auto, unfolding(crate::specs::Format::request_at))]
-pub fn request_at(file: &[u8], at: usize) -> Request
+pub fn request_at(file: &[u8], at: usize) -> Option<Request>
     requires { length file.now ≤ 524288 }
     ensures value { result ≡ request_at file.now at }
-    ensures to_bound { result.to ≤ 524296 }
+    ensures to_bound { IfSome result (λ request. request.to ≤ 524296) }
 {
-    let target = part_at(file, at);
-    let exons = part_at(file, target.to + 4);
-    let alternative = part_at(file, exons.to + 28);
-    Request {
-        whole: target.whole & exons.whole & alternative.whole,
-        target: target,
-        exons: exons,
-        alternative: alternative,
+    let target = part_at(file, at)?;
+    let exons = part_at(file, target.to + 4)?;
+    let alternative = part_at(file, exons.to + 28)?;
+    Some(Request {
+        target,
+        exons,
+        alternative,
         numbers: numbers_at(file, target.to, exons.to, alternative.to),
         to: alternative.to + 8,
-    }
+    })
 }
 
-// The stored answer at a place of a file. It is whole only where its last part is.
+// The stored answer at a place of a file: none where the file ends within it.
 #[tactic(auto, unfolding(crate::specs::Format::stored_at))]
-pub fn stored_at(file: &[u8], at: usize) -> Stored
+pub fn stored_at(file: &[u8], at: usize) -> Option<Stored>
     requires { (length file.now ≤ 524288) × (at ≤ 524296) }
     ensures value { result ≡ stored_at file.now at }
-    ensures to_bound { result.to ≤ 524288 }
+    ensures to_bound { IfSome result (λ stored. stored.to ≤ 524288) }
 {
-    let reference = part_at(file, at + 20);
-    let alternative = part_at(file, reference.to);
-    Stored {
-        whole: reference.whole & alternative.whole,
+    let reference = part_at(file, at + 20)?;
+    let alternative = part_at(file, reference.to)?;
+    Some(Stored {
         refusal: number(file, at),
         class: number(file, at + 4),
         start: number(file, at + 8),
         end: number(file, at + 12),
         probes: number(file, at + 16),
-        reference: reference,
-        alternative: alternative,
+        reference,
+        alternative,
         to: alternative.to,
-    }
+    })
 }

@@ -5,8 +5,11 @@ ghost use Rattle.definition.specs.Reply.{written};
 ghost use Rattle.recorded.specs.Replay.{filled, part_in, reply_to, holds_allele, reply_of, compared_with};
 
 use crate::records::{Part, Request, Stored};
+use asking::text;
 use definition::ANSWER_ROOM;
-use replies::Answer;
+use normalizer::replies;
+use normalizer::replies::Answer;
+use std::fmt;
 
 // What fills both buffers before a request: no base.
 const FILL: u8 = b'.';
@@ -22,13 +25,36 @@ pub struct Compared {
     pub same_alleles: bool,
 }
 
+impl Compared {
+    pub fn agrees(&self) -> bool {
+        self.same_verdict && self.same_range && self.same_probes && self.same_alleles
+    }
+}
+
+// Each part that differs, a space before it.
+impl fmt::Display for Compared {
+    fn fmt<W: fmt::Write>(&self, f: &mut fmt::Formatter<W>) -> fmt::Result {
+        if !self.same_verdict {
+            f.write_str(" class or refusal")?;
+        }
+        if !self.same_range {
+            f.write_str(" range")?;
+        }
+        if !self.same_probes {
+            f.write_str(" probes")?;
+        }
+        if !self.same_alleles {
+            f.write_str(" alleles")?;
+        }
+        Ok(())
+    }
+}
+
 // The bytes of a part: none where it does not lie in the file.
 fn bytes_of<'a>(file: &'a [u8], part: Part) -> &'a [u8]
     ensures { result.now ≡ part_in file.now part }
 {
-    let from = part.from;
-    let to = part.to;
-    text::part(file, from, to)
+    text::part(file, part.from, part.to)
 }
 
 // The byte at a place of a buffer that holds an allele, and behind it what filled the buffer.
@@ -55,10 +81,8 @@ fn holds_allele(buffer: &[u8], size: usize, allele: &[u8]) -> bool
         return false;
     }
     let mut same = true;
-    let mut i = 0;
-    while i < ANSWER_ROOM {
-        same = same & (buffer[i] == held_at(allele, i));
-        i += 1;
+    for i in 0..ANSWER_ROOM {
+        same &= buffer[i] == held_at(allele, i);
     }
     same
 }
@@ -79,11 +103,11 @@ fn compare(
     Compared {
         refusal: reply.refusal,
         class: reply.class,
-        same_verdict: (reply.refusal == stored.refusal) & (reply.class == stored.class),
-        same_range: (reply.start == stored.start) & (reply.end == stored.end),
+        same_verdict: reply.refusal == stored.refusal && reply.class == stored.class,
+        same_range: reply.start == stored.start && reply.end == stored.end,
         same_probes: reply.probes == stored.probes,
         same_alleles: holds_allele(reference_out, reply.reference_len as usize, reference)
-            & holds_allele(alternative_out, reply.alternative_len as usize, alternative),
+            && holds_allele(alternative_out, reply.alternative_len as usize, alternative),
     }
 }
 

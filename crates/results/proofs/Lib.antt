@@ -1,2 +1,15 @@
 pub mod Verdicts
 pub mod Unique
+pub mod Anchors
+pub mod Written
+pub mod BuffersUnique
+pub mod Names
+pub mod ClassesUnique
+pub mod Compared
+pub mod Parts
+pub mod CopiesLaws
+pub mod CopiesUnique
+pub mod Rules
+pub mod EndRulesUnique
+pub mod Inverted
+pub mod InversionsUnique

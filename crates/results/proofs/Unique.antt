@@ -5,10 +5,10 @@ use Rattle.definition.proofs.Fixes.{Fixes}
 use Rattle.results.proofs.build_result.Reads as build-result
 
 pub build-result-one-outcome : Fixes (λ κs x at. x) build-result.Post
-build-result-one-outcome κs a x y at_x at_y p q = p.numbers ∙ sym q.numbers
+build-result-one-outcome κs a x y at_x at_y p q = p.0.numbers ∙ sym q.0.numbers
 
-pub build-result-one-reference : Fixes (λ κs x at. at.1.1.1.1.1.1.1.1.1.1.0.now) build-result.Post
-build-result-one-reference κs a x y at_x at_y p q = p.reference_buffer ∙ sym q.reference_buffer
+pub build-result-one-reference : Fixes (λ κs x at. at.1.1.1.0.now.reference.now) build-result.Post
+build-result-one-reference κs a x y at_x at_y p q = p.0.reference_buffer ∙ sym q.0.reference_buffer
 
-pub build-result-one-alternative : Fixes (λ κs x at. at.1.1.1.1.1.1.1.1.1.1.1.0.now) build-result.Post
-build-result-one-alternative κs a x y at_x at_y p q = p.alternative_buffer ∙ sym q.alternative_buffer
+pub build-result-one-alternative : Fixes (λ κs x at. at.1.1.1.0.now.alternative.now) build-result.Post
+build-result-one-alternative κs a x y at_x at_y p q = p.0.alternative_buffer ∙ sym q.0.alternative_buffer

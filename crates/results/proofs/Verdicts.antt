@@ -9,16 +9,17 @@ use Rattle.definition.specs.declared.Direction.{Direction}
 use Rattle.definition.specs.declared.Kind.{Kind}
 use Rattle.definition.specs.declared.Piece.{Piece}
 use Rattle.definition.specs.declared.Refusal.TheVariants.{VariantSpanOutsideSequenceBounds}
-use Rattle.definition.specs.declared.Outcome.{Outcome}
-use Rattle.definition.specs.declared.Outcome.TheVariants.{Refuse}
 use Rattle.definition.specs.Answer.{Named, named, first_base_rule, last_base_rule, leaves_target}
 use Rattle.definition.specs.Verdict.{answered, answered_or16, named_at}
 use Rattle.definition.specs.Reply.{written, outcome_of, reference_out, alternative_out, Met}
-use Rattle.rotating.specs.Window.{window}
-use Rattle.rotating.proofs.Laws.{window-take}
-use Rattle.classes.specs.declared.Called.{Called}
-use Rattle.classes.specs.Called.{called_in}
-use Rattle.buffers.specs.Reported.{reported}
+use Rattle.alleles.specs.Window.{window}
+use Rattle.alleles.proofs.Laws.{window-take}
+use Rattle.results.specs.declared.classes.Called.{Called}
+use Rattle.results.specs.Called.{called_in}
+use Rattle.results.specs.Reported.{reported}
+use Rattle.definition.specs.declared.Answered.{Answered}
+use Rattle.definition.specs.declared.Refusal.{Refusal}
+use Rattle.std.specs.Prelude.{Err, Result}
 
 -- the bases that are kept are the same of the window and of its beginning
 pub called-kept : (target bytes : List ℕ) (head count : ℕ) (n : Called) → n.alternative_size ≤ count
@@ -33,12 +34,12 @@ called-kept target bytes head count n h =
 module _ (direction : Direction) (kind : Kind) (piece : Piece) (target : List ℕ) (q probes : ℕ) (reference bases : List ℕ) where
   -- row 16 touches no buffer
   pub met-row-16 : (ref alt : List ℕ) → leaves_target direction piece target q reference bases ≡ true
-      → Met (answered_or16 (reported probes) (named_at direction kind piece target q reference bases)) (Refuse VariantSpanOutsideSequenceBounds) ref ref alt alt
+      → Met (answered_or16 (reported probes) (named_at direction kind piece target q reference bases)) (Err VariantSpanOutsideSequenceBounds) ref ref alt alt
   unfolding named_at answered_or16 outcome_of reference_out alternative_out written
   met-row-16 ref alt t = rw t (record { numbers = refl; reference_buffer = refl; alternative_buffer = refl })
 
   -- where row 16 is not given, what is named and ruled is answered
-  pub met-answered : (what : Named) (r : Outcome) (ref ref' alt alt' : List ℕ) → leaves_target direction piece target q reference bases ≡ false
+  pub met-answered : (what : Named) (r : Result Answered Refusal) (ref ref' alt alt' : List ℕ) → leaves_target direction piece target q reference bases ≡ false
       → what ≡ last_base_rule kind target (first_base_rule target (named direction piece target q reference bases))
       → Met (answered (reported probes what)) r ref ref' alt alt'
       → Met (answered_or16 (reported probes) (named_at direction kind piece target q reference bases)) r ref ref' alt alt'

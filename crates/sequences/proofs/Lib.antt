@@ -1,3 +1,6 @@
-pub mod Prefix
-pub mod Suffix
 pub mod Unique
+pub mod Gathered
+pub mod ReverseComplement
+pub mod SameBases
+pub mod BasesUnique
+pub mod ReachLaws

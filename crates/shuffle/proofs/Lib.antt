@@ -1,2 +1,12 @@
 pub mod Trimming
 pub mod Unique
+pub mod Settles
+pub mod MovesUnique
+pub mod Shared
+pub mod Standing
+pub mod Steps
+pub mod SlidesLaws
+pub mod Loop
+pub mod SlidesUnique
+pub mod OneWindow
+pub mod WindowsUnique

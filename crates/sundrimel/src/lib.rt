@@ -1,14 +1,15 @@
-// The entry: what a host calls with byte slices and numbers, tables as 32-bit little-endian pairs. It asks nothing of its caller. Crate `sundrimel_c`
-// exports it.
+// The entry, exported for C and for every host that links an archive: byte slices and numbers, tables as 32-bit little-endian pairs. It asks nothing of
+// its caller.
 #![tactic(auto)]
 
 ghost use Rattle.std.specs.Prelude.{length};
 ghost use Rattle.definition.specs.Verdict.{verdict};
 ghost use Rattle.definition.specs.Reply.{reply};
 ghost use Rattle.normalizer.specs.Asked.{asked};
-ghost use Rattle.replies.specs.Replied.{Replied};
+ghost use Rattle.normalizer.specs.Replied.{Replied};
 
-use replies::Answer;
+use normalizer::replies;
+use normalizer::replies::Answer;
 
 // Any request gets an answer or one of the refusals: every number, and every byte of both buffers, is the definition's.
 #[unsafe(no_mangle)]

@@ -1,2 +1,6 @@
 pub mod Rules
 pub mod Unique
+pub mod Pairs
+pub mod ExonsUnique
+pub mod LittleEndianUnique
+pub mod Order

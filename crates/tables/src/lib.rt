@@ -1,12 +1,19 @@
-// Row 10: the table rules, and whether the row is given.
+// The table rules, and whether the row of the tables is given.
 #![tactic(auto)]
+
+pub mod exon_order;
+pub mod exons;
+pub mod little_endian;
+pub mod search;
 
 ghost use Rattle.std.specs.Prelude.{◌≡◌};
 ghost use Rattle.definition.specs.Piece.{bound_in_target, bounds_in_order, tables_hold};
 ghost use Rattle.definition.specs.Verdict.{tables_broken};
 
+use crate::exons::Exons;
 use definition::{Bound, Kind};
 
+// A bound that is given is a number up to the target's size.
 #[tactic(auto, unfolding(definition::specs::Piece::bound_in_target))]
 fn bound_in_target(bound: Bound, size: usize) -> bool
     ensures { result ≡ bound_in_target size bound }
@@ -23,51 +30,34 @@ fn bound_in_target(bound: Bound, size: usize) -> bool
 fn bounds_in_order(cds_start: Bound, cds_end: Bound) -> bool
     ensures { result ≡ bounds_in_order cds_start cds_end }
 {
-    match cds_start {
-        Bound::Absent => true,
-        Bound::Negative => true,
-        Bound::At(s) => match cds_end {
-            Bound::Absent => true,
-            Bound::Negative => true,
-            Bound::At(e) => s <= e,
-        },
+    match (cds_start, cds_end) {
+        (Bound::At(s), Bound::At(e)) => s <= e,
+        _ => true,
     }
 }
 
-// Row 10: whether every table rule holds, for any bytes at all. 512 pairs are 4096 bytes.
+/// Whether every table rule holds: 1 to 512 whole pairs of eight bytes, in order, the last end at the target's size, and CDS bounds in it and in
+/// order. The table is any bytes at all.
 #[tactic(auto, using(crate::proofs::Rules::left_over, crate::proofs::Rules::no_pair, crate::proofs::Rules::too_many, crate::proofs::Rules::rules_left))]
 pub fn tables_hold(table: &[u8], cds_start: Bound, cds_end: Bound, size: usize) -> bool
     ensures { result ≡ tables_hold table.now cds_start cds_end size }
 {
     let bytes = table.len();
-    if bytes % 8 != 0 {
-        return false;
-    }
-    if bytes < 8 {
-        return false;
-    }
-    if 4096 < bytes {
-        return false;
-    }
-    if !exon_order::exons_fit(table, size) {
-        return false;
-    }
-    if !bound_in_target(cds_start, size) {
-        return false;
-    }
-    if !bound_in_target(cds_end, size) {
-        return false;
-    }
-    bounds_in_order(cds_start, cds_end)
+    bytes % 8 == 0
+        && 8 <= bytes
+        && bytes <= 4096
+        && Exons::of(table).fit(size)
+        && bound_in_target(cds_start, size)
+        && bound_in_target(cds_end, size)
+        && bounds_in_order(cds_start, cds_end)
 }
 
-// Row 10: a transcript that does not cross breaks a table rule.
+/// Whether the row of the tables is given: a transcript that does not cross breaks a table rule.
 pub fn bad_tables(kind: Kind, exons: &[u8], cds_start: Bound, cds_end: Bound, size: usize) -> bool
     ensures { result ≡ tables_broken kind exons.now cds_start cds_end size }
 {
     match kind {
-        Kind::Open => false,
         Kind::Transcript => !tables_hold(exons, cds_start, cds_end, size),
-        Kind::Crossing => false,
+        Kind::Open | Kind::Crossing => false,
     }
 }

@@ -1,4 +1,4 @@
-//! The differential runner. It puts each request to the product, to the model of document 01 and,
+//! The differential runner. It puts each request to the product, to the model of docs/RULES.md and,
 //! where `requests::comparison` allows, to the Rust, and compares every number, every byte written
 //! and not written, and every refusal.
 //!

@@ -1,4 +1,4 @@
-//! Document 01 as plain Rust, written from its sentences alone: what is answered to a request.
+//! The rules of docs/RULES.md as plain Rust, written from the sentences alone: what is answered to a request.
 //!
 //! The order of [`verdict`] is the order of the document: the rows of the table, the two requests
 //! that are answered at once, the piece, the move, the class and the end rules. Clarity goes before
@@ -26,7 +26,7 @@ pub enum Verdict {
     Answered(Answer),
 }
 
-/// What document 01 answers to a request.
+/// What the rules answer to a request.
 pub fn verdict(request: &Request) -> Verdict {
     match judged(request) {
         Ok(answer) => Verdict::Answered(answer),

@@ -1,4 +1,4 @@
-//! Every row of document 01's bench, both sides of its limits, and the 50-base run.
+//! Every row of the bench of docs/RULES.md, both sides of its limits, and the 50-base run.
 
 use model::{verdict, Request, Verdict};
 

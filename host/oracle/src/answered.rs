@@ -1,4 +1,4 @@
-//! The Rust's result in document 01's numbers.
+//! The Rust's result in the numbers of docs/RULES.md.
 
 use crate::normalizer::Error;
 use crate::parser::{HgvsVariant, NaEdit};

@@ -1,4 +1,4 @@
-//! The Rust being carried, asked as document 01 asks.
+//! The Rust being carried, asked as docs/RULES.md asks.
 //!
 //! Its text (normalizer.rs, sequences.rs, validator and data errors) is compiled unchanged from the
 //! place that build.rs found; the other modules are stand-ins for what that text names, and the way

@@ -1,4 +1,4 @@
-//! What the Rust answers, in document 01's words.
+//! What the Rust answers, in the words of docs/RULES.md.
 
 /// An answer: its class by number, its 1-based range, and its alleles. The Rust counts no probes.
 #[derive(Clone, Debug, PartialEq, Eq)]
@@ -10,7 +10,7 @@ pub struct Answer {
     pub alternative: String,
 }
 
-/// What came back: an answer, an error that has a row in document 01, or another failure in words.
+/// What came back: an answer, an error that has a row of the refusals, or another failure in words.
 #[derive(Clone, Debug, PartialEq, Eq)]
 pub enum Verdict {
     Answered(Answer),

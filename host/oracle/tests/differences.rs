@@ -1,5 +1,5 @@
-//! Where the Rust and document 01 part: the smallest input of each known difference, what the Rust
-//! does, and which row of 01 refuses it. Nothing is asked where the text is not at hand.
+//! Where the Rust and docs/RULES.md part: the smallest input of each known difference, what the Rust
+//! does, and which row refuses it. Nothing is asked where the text is not at hand.
 
 use oracle::{Answer, Oracle, Verdict};
 use requests::comparison::{outside, Outside};
@@ -12,7 +12,7 @@ fn row_of(request: &Request) -> u32 {
     }
 }
 
-/// The Rust gives `rust`, document 01 refuses by `row`, and the rule leaves it out for `reason`.
+/// The Rust gives `rust`, the rules refuse by `row`, and the rule leaves it out for `reason`.
 fn parts(request: &Request, rust: Verdict, row: u32, reason: Outside) {
     let Some(mut oracle) = Oracle::new() else {
         return;

@@ -1,4 +1,4 @@
-//! The one rule that says which requests the Rust can be asked: all inside document 01's domain, and
+//! The one rule that says which requests the Rust can be asked: all inside the domain of docs/RULES.md, and
 //! those of row 5 that it refuses as well. Each exception stands here with its reason.
 
 use crate::Request;
@@ -46,7 +46,7 @@ impl Outside {
     }
 }
 
-/// Why the Rust is not asked for this request, whose refusal by document 01 is given (0 for none).
+/// Why the Rust is not asked for this request, whose refusal by the rules is given (0 for none).
 pub fn outside(request: &Request, refusal: u32) -> Option<Outside> {
     match refusal {
         1..=4 | 6..=10 => Some(Outside::AddedRow),

@@ -1,4 +1,4 @@
-//! Random requests inside document 01's limits and near them: short and long targets, repeats of
+//! Random requests inside the limits and near them: short and long targets, repeats of
 //! period 1 to 6, tables with gaps and up to 512 exons, alleles and windows to 1,024.
 
 use crate::tables::{random_cds, random_table};

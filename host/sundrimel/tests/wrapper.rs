@@ -1,4 +1,4 @@
-//! The wrapper against document 01's bench: every kind, edit, direction, class and its refusals.
+//! The wrapper against the bench of docs/RULES.md: every kind, edit, direction, class and its refusals.
 
 use sundrimel::{exon_bytes, Class, Direction, Edit, Kind, Normalizer, Refusal, Request, Tables};
 

@@ -2,7 +2,7 @@
 use Rattle.std.proofs.Common.{◌≤◌, arith}
 use Rattle.definition.proofs.Prefixes.{lcp-le-right}
 use Rattle.alleles.specs.Held.{held}
-use Rattle.rotating.proofs.Laws.{window-length}
+use Rattle.alleles.proofs.Laws.{window-length}
 use Rattle.allele_rounds.proofs.by_value.Goals as goal
 
 pub keep_front-reference-requires-clause-first_le_count :

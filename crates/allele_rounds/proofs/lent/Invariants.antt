@@ -1,9 +1,7 @@
--- The head stays a place of the buffer.
-use Rattle.std.proofs.Common.{◌-◌, ◌<◌, ◌≤◌}
+-- Before each round one allele holds one base and the other none.
+use Rattle.std.proofs.Common.{◌≡◌}
+use Rattle.alleles.specs.Held.{Good}
 use Rattle.allele_rounds.proofs.lent.Given as goal
 
-abbrev pub invariant-loop-i : goal.invariant-loop-i
-invariant-loop-i l = (l.i ≤ l.rounds) × (l.head < 2048)
-
-abbrev pub decreases-loop-i : goal.decreases-loop-i
-decreases-loop-i l = l.rounds - l.i
+abbrev pub invariant-loop : goal.invariant-loop
+invariant-loop l = Good l.alleles.reference × (l.alleles.reference.count ≡ 1) × Good l.alleles.alternative × (l.alleles.alternative.count ≡ 0)

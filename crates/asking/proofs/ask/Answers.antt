@@ -1,29 +1,44 @@
 -- By the request that the words make, and by what its target comes to; the letters of that stand at the front of its room.
 use Rattle.std.proofs.Common.{refl, ◌∙◌}
-use Rattle.asking.proofs.Came.{stops, goes_on, unread, with-letters, broken, no-edit, no-range, with-range}
+use Rattle.std.proofs.lemmas.Result.{err_from_is_err_and}
+use Rattle.asking.specs.Sources.{bytes_of}
+use Rattle.asking.proofs.Came.{none-gives, stops, goes_on, unread, with-letters, broken, no-edit, no-range, with-range}
 use Rattle.asking.proofs.ask.Goals as goal
 
-pub returns-then-request-eq-NO_EDIT : goal.returns-then-request-eq-NO_EDIT
-returns-then-request-eq-NO_EDIT c = stops (no-edit _ _ _ _ _ c.in-Whole.ensures refl c.if-request-eq-NO_EDIT.true)
+pub returns-in_err-request : goal.returns-in_err-request
+returns-in_err-request c =
+    let p = err_from_is_err_and c.from_residual.result c.from_residual.ensures.1 in
+    rw (p.1, p.2) (stops (broken _ _ _ _ c.in_err-request.ensures refl))
 
-pub returns-in_default : goal.returns-in_default
-returns-in_default c = stops (no-range _ _ _ _ _ c.in-Whole.ensures refl c.if-request-eq-NO_EDIT.false c.in_default.is)
+pub returns-in_err-edit : goal.returns-in_err-edit
+returns-in_err-edit c =
+    let p = err_from_is_err_and c.from_residual-in_err-edit.result c.from_residual-in_err-edit.ensures.1 in
+    let none = c.in_err-edit.ensures in
+    rw (p.1, p.2, none-gives none.value none.ok_part) (stops (no-edit _ _ _ _ c.in_ok-request.ensures refl none.ok_part))
 
-pub returns-in-Unread : goal.returns-in-Unread
-returns-in-Unread c =
+pub returns-in_err-range : goal.returns-in_err-range
+returns-in_err-range c =
+    let p = err_from_is_err_and c.from_residual-in_err-range.result c.from_residual-in_err-range.ensures.1 in
+    let none = c.in_err-range.ensures in
+    rw (p.1, p.2, none-gives none.value none.ok_part)
+    (stops (no-range _ _ _ _ c.in_ok-request.ensures refl c.in_ok-edit.ensures.ok_part none.ok_part))
+
+pub returns-in_err-size : goal.returns-in_err-size
+returns-in_err-size c =
     let a = c.args in
-    let is = with-range a.text.now a.file a.bytes.now _ _ c.in-Whole.ensures refl c.if-request-eq-NO_EDIT.false c.in-Between.is in
-    let room = c.target_room-target in
-    stops (is ∙ unread a.text.now c.in-Whole.request c.in-Between.start c.in-Between.end a.file a.bytes.now _ _ room.result room.ensures c.in-Unread.ensures.value refl)
+    let p = err_from_is_err_and c.from_residual-in_err-size.result c.from_residual-in_err-size.ensures.1 in
+    let is = with-range a.text.now (bytes_of a.file) _ _ c.in_ok-request.ensures refl c.in_ok-edit.ensures.ok_part c.in_ok-range.ensures.ok_part in
+    let room = c.room-target in
+    rw (p.1, p.2)
+    (stops
+    (is
+    ∙ unread a.text.now c.in_ok-request.request c.in_ok-edit.edit c.in_ok-range.range (bytes_of a.file) _ _ room.result room.ensures.size c.in_err-size.ensures.value refl))
 
-pub returns-in-Broken : goal.returns-in-Broken
-returns-in-Broken c = stops (broken _ _ _ _ _ c.in-Broken.ensures refl)
-
-pub returns-in-Letters : goal.returns-in-Letters
-returns-in-Letters c =
+pub returns : goal.returns
+returns c =
     let a = c.args in
-    let is = with-range a.text.now a.file a.bytes.now _ _ c.in-Whole.ensures refl c.if-request-eq-NO_EDIT.false c.in-Between.is in
-    let room = c.target_room-target in
-    let came = c.in-Letters.ensures in
-    let on = with-letters a.text.now c.in-Whole.request c.in-Between.start c.in-Between.end a.file a.bytes.now _ _ room.result room.ensures came.value in
+    let is = with-range a.text.now (bytes_of a.file) _ _ c.in_ok-request.ensures refl c.in_ok-edit.ensures.ok_part c.in_ok-range.ensures.ok_part in
+    let room = c.room-target in
+    let came = c.in_ok-size.ensures in
+    let on = with-letters a.text.now c.in_ok-request.request c.in_ok-edit.edit c.in_ok-range.range (bytes_of a.file) _ _ room.result room.ensures.size came.value in
     goes_on (is ∙ on refl came.target_after c.part.ensures) c.hand.ensures

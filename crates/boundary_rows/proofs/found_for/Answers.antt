@@ -1,6 +1,6 @@
 -- A table that passes row 10 is in order.
 use Rattle.std.proofs.Common.{sym, ◌∙◌}
-use Rattle.pieces.proofs.Within.{table-in-order}
+use Rattle.boundary.proofs.Within.{table-in-order}
 use Rattle.boundary_rows.proofs.found_for.Goals as goal
 
 pub piece_for-requires-then-tables_hold : goal.piece_for-requires-then-tables_hold

@@ -1,6 +1,6 @@
 -- What was read of the range, and the rest over it. The row's law goes into `rw` by its bare name: what it asks of the rows before is found among the
 -- facts bound above it.
-use Rattle.std.proofs.Common.{length, refl, sym, ap, not}
+use Rattle.std.proofs.Common.{length, refl, sym, ap, not, ◌∙◌, rules}
 use Rattle.std.proofs.lemmas.Int.{to_z-of_z}
 use Rattle.definition.specs.Verdict.{bad_code, bad_window, bad_target, bad_base}
 use Rattle.normalizer.specs.Asked.{asked}
@@ -13,39 +13,45 @@ normalize_range-requires c =
     let a = c.args in
     let r = asked a.target.now a.kind a.exons.now a.cds_start a.cds_end a.start a.end a.edit a.alternative.now
     a.direction a.window (length a.reference_out.now) (length a.alternative_out.now) in
-    let read = simp (to_z-of_z, c.ranges.start, c.ranges.end) at c.in-Within.ensures in
-    let ordered = read-ordered r _ read _ _ refl in
-    let window = window-inside a.window (sym c.if-bad_window.ensures) in
-    (ordered.0, ordered.1, target-short (length a.target.now) (sym c.if-bad_target.ensures), window.0, window.1)
+    let read = simp (to_z-of_z, c.ranges.start, c.ranges.end) at c.in-Some.ensures in
+    let ordered = read-ordered r _ read _ refl in
+    let window = window-inside a.window (sym c.bad_window.ensures ∙ c.in_ok-refuse_if-2.ensures) in
+    record {
+      ordered = ordered.0;
+      in_target = ordered.1;
+      short = target-short (length a.target.now) (sym c.bad_target.ensures ∙ c.in_ok-refuse_if-3.ensures);
+      some = window.0;
+      most = window.1;
+    }
 
-pub returns-in-Outside : goal.returns-in-Outside
+pub returns-in_default : goal.returns-in_default
 unfolding bad_code bad_window bad_target bad_base
-returns-in-Outside c =
+returns-in_default c =
     let a = c.args in
     let r = asked a.target.now a.kind a.exons.now a.cds_start a.cds_end a.start a.end a.edit a.alternative.now
     a.direction a.window (length a.reference_out.now) (length a.alternative_out.now) in
-    let codes = sym c.if-bad_code.ensures in
-    let window = sym c.if-bad_window.ensures in
-    let size = sym c.if-bad_target.ensures in
-    let bases = ap not (sym c.if-not-all_bases.ensures) in
-    let read = simp (to_z-of_z, c.ranges.start, c.ranges.end) at c.in-Outside.ensures in
+    let codes = sym c.bad_code.ensures ∙ c.in_ok-refuse_if.ensures in
+    let window = sym c.bad_window.ensures ∙ c.in_ok-refuse_if-2.ensures in
+    let size = sym c.bad_target.ensures ∙ c.in_ok-refuse_if-3.ensures in
+    let bases = ap not (sym c.all_bases.ensures) ∙ c.in_ok-refuse_if-4.ensures in
+    let read = simp (to_z-of_z, c.ranges.start, c.ranges.end) at c.in_default.ensures in
     let outside = read-outside r _ read refl in
     rw row-5 (refused-met _ _ _)
 
-pub returns-in-Within : goal.returns-in-Within
+pub returns : goal.returns
 unfolding bad_code bad_window bad_target bad_base
-returns-in-Within c =
+returns c =
     let a = c.args in
     let r = asked a.target.now a.kind a.exons.now a.cds_start a.cds_end a.start a.end a.edit a.alternative.now
     a.direction a.window (length a.reference_out.now) (length a.alternative_out.now) in
-    let codes = sym c.if-bad_code.ensures in
-    let window = sym c.if-bad_window.ensures in
-    let size = sym c.if-bad_target.ensures in
-    let bases = ap not (sym c.if-not-all_bases.ensures) in
-    let read = simp (to_z-of_z, c.ranges.start, c.ranges.end) at c.in-Within.ensures in
-    let within = read-within r _ read _ _ refl in
+    let codes = sym c.bad_code.ensures ∙ c.in_ok-refuse_if.ensures in
+    let window = sym c.bad_window.ensures ∙ c.in_ok-refuse_if-2.ensures in
+    let size = sym c.bad_target.ensures ∙ c.in_ok-refuse_if-3.ensures in
+    let bases = ap not (sym c.all_bases.ensures) ∙ c.in_ok-refuse_if-4.ensures in
+    let read = simp (to_z-of_z, c.ranges.start, c.ranges.end) at c.in-Some.ensures in
+    let within = read-within r _ read _ refl in
     rw (past-reading r _ _ _ _ _ _ _ c.kind_of.ensures
     (simp (to_z-of_z, c.ranges.cds_start) at c.bound_of.ensures)
-    (simp (to_z-of_z, c.ranges.cds_end) at c.bound_of-in-Within.ensures)
+    (simp (to_z-of_z, c.ranges.cds_end) at c.bound_of-2.ensures)
     within.1 within.2 c.edit_of.ensures c.direction_of.ensures codes window size bases within.0)
-    c.normalize_range.ensures
+    (search rules)

@@ -4,7 +4,7 @@ use Rattle.std.proofs.lemmas.Int.{to_z-of_z}
 use Rattle.definition.specs.Verdict.{verdict}
 use Rattle.demands.proofs.Numbers.{reply-fits}
 use Rattle.normalizer.specs.Asked.{asked}
-use Rattle.replies.proofs.Replied.{small-outcome, replied}
+use Rattle.normalizer.proofs.Replied.{small-outcome, replied}
 use Rattle.sundrimel.proofs.sundrimel_normalize.Goals as goal
 
 pub in_numbers-requires : goal.in_numbers-requires

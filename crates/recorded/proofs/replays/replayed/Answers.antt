@@ -3,7 +3,7 @@ use Rattle.std.proofs.Common.{[], ap, ◌∙◌, rules, FitsSigned, w32, w64}
 use Rattle.std.proofs.lemmas.Int.{to_z-of_z}
 use Rattle.definition.specs.Verdict.{verdict}
 use Rattle.demands.proofs.Numbers.{reply-fits}
-use Rattle.replies.proofs.Replied.{small-outcome}
+use Rattle.normalizer.proofs.Replied.{small-outcome}
 use Rattle.recorded.specs.Replay.{filled, asked_in, compared_with}
 use Rattle.recorded.proofs.Replied.{replied}
 use Rattle.recorded.proofs.replays.replayed.Goals as goal

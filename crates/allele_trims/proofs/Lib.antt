@@ -1,2 +1,0 @@
-pub mod Trims
-pub mod Unique

@@ -1,0 +1,57 @@
+// A page on which output is gathered, so that many small pieces of text are one write. What is put on a page can't fail, which a `fmt::Result`
+// would leave open: so functions put the texts, and no impl of `Display` does.
+ghost use Rattle.std.specs.Prelude.{◌≡◌, take, [], ◌∷◌};
+ghost use Rattle.asking.specs.Digits.{decimal_text};
+ghost use Rattle.asking.specs.Page.{page, shown, Put};
+
+/// A lent buffer, of which so many bytes are used. A text goes behind those; what does not fit is cut at the buffer's end.
+#[derive(Drop)]
+pub struct Page<'a> {
+    bytes: &'a mut [u8],
+    used: usize,
+}
+
+impl<'a> Page<'a> {
+    /// An empty page over a buffer.
+    pub fn new(bytes: &'a mut [u8]) -> Page<'a>
+        ensures empty { shown result ≡ page bytes.old 0 }
+        ensures same_buffer { result.bytes.ghost_name ≡ bytes.entry.ghost_name }
+    {
+        Page { bytes, used: 0 }
+    }
+
+    /// What the page holds.
+    pub fn text(&self) -> &[u8]
+        ensures { result.now ≡ take self.now.used self.now.bytes.now }
+    {
+        &self.bytes[..self.used.min(self.bytes.len())]
+    }
+
+    /// Puts a byte, unless the page is full.
+    #[tactic(auto, unfolding(crate::specs::Page::with_text))]
+    pub fn put_byte(&mut self, byte: u8)
+        ensures { Put self.old (byte ∷ []) self.new }
+    {
+        if self.used < self.bytes.len() {
+            self.bytes[self.used] = byte;
+            self.used += 1;
+        }
+    }
+
+    /// Puts the bytes of a text.
+    #[tactic(auto, using(crate::proofs::Pages::none))]
+    pub fn put(&mut self, text: &[u8])
+        ensures { Put self.old text.now self.new }
+    {
+        for byte in text {
+            self.put_byte(*byte);
+        }
+    }
+
+    /// Puts a number as a decimal.
+    pub fn put_number(&mut self, number: usize)
+        ensures { Put self.old (decimal_text number) self.new }
+    {
+        self.put(itoa::Buffer::new().format(number).as_bytes());
+    }
+}

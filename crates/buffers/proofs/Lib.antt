@@ -1,3 +1,0 @@
-pub mod Anchors
-pub mod Written
-pub mod Unique

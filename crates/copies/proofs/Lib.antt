@@ -1,4 +1,0 @@
-pub mod Compared
-pub mod Parts
-pub mod Copies
-pub mod Unique

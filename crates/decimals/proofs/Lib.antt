@@ -1,3 +1,0 @@
--- What the proofs share. Assumes nothing.
-pub mod Digits
-pub mod Unique

@@ -1,2 +1,0 @@
--- What the contracts of `src/` cite. Assumes nothing.
-pub mod Digits

@@ -1,2 +1,0 @@
-pub mod Inverted
-pub mod Unique

@@ -1,3 +1,0 @@
--- What the proofs share. Assumes nothing.
-pub mod Lines
-pub mod Unique

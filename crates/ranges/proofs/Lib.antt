@@ -1,3 +1,0 @@
-pub mod Signed
-pub mod Read
-pub mod Unique

@@ -1,0 +1,15 @@
+// A change at its final place, and what it is named by.
+use alleles::Allele;
+use definition::{Direction, Piece, Zero};
+
+/// A change that was moved to its final place in its piece. Its reference is a part of the target, so that only the size is held; its alternative stands in
+/// a rotating buffer, which is lent.
+#[derive(Clone, Copy)]
+pub struct Moved<'a> {
+    pub target: &'a [u8],
+    pub direction: Direction,
+    pub piece: Piece,
+    pub place: Zero,
+    pub reference_size: usize,
+    pub alternative: &'a Allele,
+}

@@ -1,8 +1,0 @@
--- What the public contract fixes of a text: any two results that it allows for the same arguments are equal, the size and every byte. Assumes nothing.
-use Rattle.definition.proofs.Fixes.{Fixes}
-use Rattle.terminal.specs.Page.{page}
-use Rattle.terminal.proofs.Unique.{one-page}
-use Rattle.runs.proofs.expand.Reads as expand
-
-pub expand-one-text : Fixes (λ κs x at. page at.1.1.0.now x) expand.Post
-expand-one-text κs a x y at_x at_y p q = one-page p q

@@ -1,3 +1,0 @@
-pub mod Ways
-pub mod InPlace
-pub mod Unique

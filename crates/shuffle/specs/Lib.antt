@@ -1,0 +1,3 @@
+pub mod Settled
+pub mod Slides
+pub mod Windows

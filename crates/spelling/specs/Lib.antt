@@ -1,2 +1,0 @@
-pub mod Asked
-pub mod Spelled
