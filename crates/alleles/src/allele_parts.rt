@@ -1,5 +1,6 @@
-// Parts of an allele, by value: its first bases or its last alone, and its bases written out. That the buffer is handed in and back is a rule of the project.
-// Its bytes are read in `rotating_out`; here are the head and the count. Front and back stay two functions, since they differ in what is added to the head.
+// Parts of an allele, by value: its first bases or its last alone, and its bases written out. That the buffer is handed in and back is a rule of the
+// project (docs/RULES.md, "Forms"). Its bytes are read in `rotating_out`; here are the head and the count. Front and back stay two functions: the edits
+// `keep_front_moves_the_head`, `keep_back_from_the_count` and `keep_back_round_too_short` speak of the head of each.
 ghost use Rattle.std.specs.Prelude.{◌+◌, ◌-◌, ◌%◌, ◌≤◌, length, take, drop};
 ghost use Rattle.alleles.specs.Held.{held, Good, Holds};
 ghost use Rattle.alleles.specs.WrittenOut.{WrittenOut};

@@ -1,4 +1,4 @@
-// Two alleles without what they share at one end, by value: that the buffers are handed in and back is a rule of the project. What they share is counted in
+// Two alleles without what they share at one end, by value: that the buffers are handed in and back is a rule of the project (docs/RULES.md, "Forms"). What they share is counted in
 // `ends`; what is kept of each is a part of its buffer. Front and back stay two functions: one over a side would have these two as its arms.
 ghost use Rattle.alleles.specs.Held.{Good};
 ghost use Rattle.alleles.specs.Trims.{TrimmedFront, TrimmedBack};

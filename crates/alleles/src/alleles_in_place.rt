@@ -1,6 +1,6 @@
 // The thin forms of `alleles` and `allele_parts`: the buffer is lent and rotated in place. Each takes the allele out of the reference,
 // calls the by-value function of the same name and stores what comes back; it asks and ensures what that function does, of the buffer at entry and at exit.
-// That a thin form calls the by-value work is a rule of the project. A move calls `append`, `prepend`, `narrow` and `fill`, which copy no buffer.
+// That a thin form calls the by-value work is a rule of the project (docs/RULES.md, "Forms"). A move calls `append`, `prepend`, `narrow` and `fill`, which copy no buffer.
 ghost use Rattle.std.specs.Prelude.{◌+◌, ◌-◌, ◌%◌, ◌≤◌, ◌++◌, length, take, drop};
 ghost use Rattle.alleles.specs.Held.{held, Good, Holds};
 

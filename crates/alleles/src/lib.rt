@@ -2,7 +2,8 @@
 // where it stands, so that a move copies no buffer; `push_back`, `push_front` and `filled` do so by value.
 // What is done to its bytes stands in `rotating`; here are the head and the count.
 // The back and the front have a function each: they differ in what is stored where and in the head, which is all that each says.
-// That the window is `Good` stays a clause, not an invariant of the type: its fields are public, and who builds an allele is asked nothing.
+// That the window is `Good` stays a clause, not an invariant of the type: the fields are public (docs/RULES.md, "Forms"), and who builds an `Allele`, as the
+// programs `alleles_in_place_rows` and `allele_rounds` may, is asked nothing.
 #![tactic(auto)]
 
 pub mod allele_parts;

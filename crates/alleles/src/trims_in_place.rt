@@ -1,6 +1,6 @@
 // The thin forms of `allele_trims`: two buffers are lent and trimmed in place. Each takes both alleles out of the references, calls the by-value function of
 // the same name and stores the two rests that come back; it asks and ensures what that function does, of the buffers at entry and at exit.
-// That a thin form calls the by-value work is a rule of the project.
+// That a thin form calls the by-value work is a rule of the project (docs/RULES.md, "Forms").
 ghost use Rattle.alleles.specs.Held.{Good};
 ghost use Rattle.alleles.specs.Trims.{TrimmedFront, TrimmedBack};
 ghost use Rattle.alleles.specs.Rests.{rests};

@@ -12,7 +12,7 @@ use alleles::trims_in_place::{trim_back_in, trim_front_in};
 use alleles::{Allele, allele_parts};
 use std::io;
 
-// A thin form called on an allele of the caller's own: the local is lent for the call, and given back by value.
+// Each thin form called on an allele of the caller's own: the local is lent for the call, and given back by value.
 fn pushed_back(mut allele: Allele, part: &[u8]) -> Allele
     requires { Good allele × (allele.count + length part.now ≤ 2048) }
     ensures { Holds result allele.head (allele.count + length part.now) (held allele ++ part.now) }
@@ -46,28 +46,20 @@ fn kept_back(mut allele: Allele, last: usize) -> Allele
     allele
 }
 
-fn trimmed_front(mut a: Allele, mut b: Allele) -> Trimmed
-    requires { Good a × Good b }
-    ensures { TrimmedFront a b result }
+fn trimmed_front(mut left: Allele, mut right: Allele) -> Trimmed
+    requires { Good left × Good right }
+    ensures { TrimmedFront left right result }
 {
-    let n = trim_front_in(&mut a, &mut b);
-    Trimmed {
-        count: n,
-        left: a,
-        right: b,
-    }
+    let count = trim_front_in(&mut left, &mut right);
+    Trimmed { count, left, right }
 }
 
-fn trimmed_back(mut a: Allele, mut b: Allele) -> Trimmed
-    requires { Good a × Good b }
-    ensures { TrimmedBack a b result }
+fn trimmed_back(mut left: Allele, mut right: Allele) -> Trimmed
+    requires { Good left × Good right }
+    ensures { TrimmedBack left right result }
 {
-    let n = trim_back_in(&mut a, &mut b);
-    Trimmed {
-        count: n,
-        left: a,
-        right: b,
-    }
+    let count = trim_back_in(&mut left, &mut right);
+    Trimmed { count, left, right }
 }
 
 // The bases of an allele, and where its window begins.

@@ -8,8 +8,7 @@ use Rattle.definition.specs.Verdict.{verdict}
 use Rattle.definition.specs.Reply.{Met, written}
 use Rattle.normalizer.specs.Asked.{asked}
 use Rattle.asking.specs.Text.{part_of}
-use Rattle.std.specs.Option.{ok_or}
-use Rattle.std.specs.Prelude.{Option, Some, None, Result, Ok, Err}
+use Rattle.std.specs.Prelude.{Some, None, Result, Ok, Err}
 use Rattle.asking.specs.declared.exon_lists.BadExons as exon-lists
 use Rattle.asking.specs.declared.requests.Broken.{Broken}
 use Rattle.asking.specs.declared.requests.Request.{Request}
@@ -25,12 +24,6 @@ use Rattle.asking.specs.Reached.{of_exons, exons_at, Came, on_target, on_range, 
 use Rattle.definition.specs.declared.Answered.{Answered}
 use Rattle.definition.specs.declared.Refusal.{Refusal}
 use Rattle.std.specs.Prelude.{Result}
-
--- the error of an option that is none
-pub none-gives : {T E : Type 0} {option : Option T} {given asked : E} → ◌≡◌ {A = Result T E} (Err given) (ok_or option asked) → option ≡ None → given ≡ asked
-none-gives is none =
-    let same = rw none at is in
-    cc
 
 module _ {came : Came} {reference alternative : List ℕ} where
   pub stops : {problem : Problem} → came ≡ Err problem → Answers came (Err problem) reference reference alternative alternative

@@ -5,33 +5,24 @@ use mathlib.Core.Path.{◌≡◌, refl, sym, ap, ◌∙◌}
 use mathlib.Core.Bool.{Bool, true, false}
 use mathlib.Core.List.{List, [], ◌∷◌, ◌++◌}
 use Rattle.std.specs.Prelude.{Option, Some, None, Result, Ok, Err}
+use Rattle.std.proofs.lemmas.List.{at_drop_more, at_drop_all}
 use lib.Dec.{leb}
-use lib.ListN.{length, drop, length-append}
-use Rattle.asking.specs.Text.{part_of, found_at, parts_at}
+use lib.ListN.{length, drop, get_or, length-append}
+use Rattle.asking.specs.Text.{parts_at}
 use Rattle.asking.specs.Laid.{laid_at}
-use Rattle.asking.proofs.Laid.{length-laid, laid-nothing, laid-after}
+use Rattle.asking.proofs.Laid.{laid-nothing, laid-after}
 use Rattle.asking.specs.declared.exon_lists.BadExons.{BadExons}
 use Rattle.asking.specs.declared.exon_lists.BadExons.TheVariants.{TooMany}
 use Rattle.asking.specs.Exons.{Pairs, pair_bytes, pair_came, pair_put, going_on, pairs_behind, pairs_of}
-use Rattle.asking.proofs.Splits.{Parted, parted, last-part, next-part}
 
-pub record Reading (list table then : List ℕ) (size from : ℕ) : Type 0 where
+pub record Reading (list table then : List ℕ) (size turn : ℕ) : Type 0 where
   pub taken : List ℕ
   pub counted : size ≡ length taken
-  pub within : from ≤ length list
-  pub long : length then ≡ length table
   pub held : then ≡ laid_at 0 taken table
-  pub whole : pairs_behind taken (parts_at 44 (drop from list)) ≡ pairs_of list
+  pub whole : pairs_behind taken (drop turn (parts_at 44 list)) ≡ pairs_of list
 
 pub start : (list table : List ℕ) → Reading list table table 0 0
-start list table = record {
-  taken = [];
-  counted = refl;
-  within = omega arith;
-  long = refl;
-  held = sym (laid-nothing 0 table);
-  whole = refl;
-}
+start list table = record { taken = []; counted = refl; held = sym (laid-nothing 0 table); whole = refl }
 
 sized : (size next : ℕ) (bytes : Option (List ℕ)) → pair_came size bytes ≡ Ok next → next ≡ size + length (pair_put size bytes)
 sized size next None e =
@@ -49,9 +40,20 @@ sized size next (Some eight) e = go (leb 4104 size) refl
         let g : next ≡ size + length eight = cc in
         rw t g
 
-module _ (list table : List ℕ) {then : List ℕ} {size from : ℕ} (at : Reading list table then size from)
-    {comma : ℕ} {part last : List ℕ} {came : Result ℕ BadExons} (is-comma : comma ≡ found_at list from 44) (inside : comma ≤ length list)
-    (is-part : part ≡ part_of list from comma)
+-- behind the last pair
+pub done : (list table : List ℕ) {then : List ℕ} {size turn : ℕ} → Reading list table then size turn → length (parts_at 44 list) ≤ turn
+    → (Ok size ≡ (pairs_of list).came) × (then ≡ laid_at 0 (pairs_of list).bytes table)
+unfolding pairs_behind
+done list table {then} {size} {turn} at last =
+    let all : record { came = Ok (length at.taken); bytes = at.taken } ≡ pairs_of list =
+    sym (at_drop_all (pairs_behind at.taken) (parts_at 44 list) turn last) ∙ at.whole in (
+      ap Ok at.counted ∙ ap (λ (pairs : Pairs). pairs.came) all,
+      at.held ∙ ap (λ (pairs : Pairs). laid_at 0 pairs.bytes table) all,
+    )
+
+module _ (list table : List ℕ) {then : List ℕ} {size turn : ℕ} (at : Reading list table then size turn)
+    {part last : List ℕ} {came : Result ℕ BadExons}
+    (is-part : (turn < length (parts_at 44 list)) × (part ≡ get_or (parts_at 44 list) turn part))
     (is-came : came ≡ pair_came size (pair_bytes part)) (is_last : last ≡ laid_at size (pair_put size (pair_bytes part)) then) where
   abbrev more : List ℕ
   more = at.taken ++ pair_put size (pair_bytes part)
@@ -68,39 +70,21 @@ module _ (list table : List ℕ) {then : List ℕ} {size from : ℕ} (at : Readi
       let one_more : next ≡ size + length (pair_put size (pair_bytes part)) = sized size next (pair_bytes part) (sym is-came ∙ e) in
       omega (arith, length-append at.taken (pair_put size (pair_bytes part)))
 
-  unrolled : (rest : List (List ℕ)) → parts_at 44 (drop from list) ≡ part ∷ rest → pairs_of list ≡ going_on came more (λ bytes. pairs_behind bytes rest)
+  going : {x : Result ℕ BadExons} → came ≡ x → pairs_of list ≡ going_on x more (λ bytes. pairs_behind bytes (drop (turn + 1) (parts_at 44 list)))
   unfolding pairs_behind
-  unrolled rest e = sym at.whole ∙ rw (e, is-came, at.counted)
-
-  ended : (x : Result ℕ BadExons) → pairs_of list ≡ record { came = x; bytes = more } → (x ≡ (pairs_of list).came) × (last ≡ laid_at 0 (pairs_of list).bytes table)
-  ended x e = (sym (ap (λ (pairs : Pairs). pairs.came) e), put ∙ sym (ap (λ (pairs : Pairs). laid_at 0 pairs.bytes table) e))
-
-  going : {x : Result ℕ BadExons} → came ≡ x → (rest : List (List ℕ)) → parts_at 44 (drop from list) ≡ part ∷ rest
-      → pairs_of list ≡ going_on x more (λ bytes. pairs_behind bytes rest)
-  going e rest first = unrolled rest first ∙ ap (λ (y : Result ℕ BadExons). going_on y more (λ bytes. pairs_behind bytes rest)) e
-
-  abbrev behind-it : Parted 44 (drop from list) part
-  behind-it = parted 44 list at.within is-comma inside is-part
+  going e =
+      sym at.whole
+      ∙ at_drop_more (pairs_behind at.taken) (parts_at 44 list) turn part is-part.0
+      ∙ ap (λ (pair : List ℕ). pairs_behind at.taken (pair ∷ drop (turn + 1) (parts_at 44 list))) (sym is-part.1)
+      ∙ rw (← at.counted, ← is-came, e)
 
   pub refused : {why : BadExons} → came ≡ Err why → (Err why ≡ (pairs_of list).came) × (last ≡ laid_at 0 (pairs_of list).bytes table)
-  refused {why} e = ended (Err why) (going e behind-it.rest behind-it.first)
+  refused e = (sym (ap (λ (pairs : Pairs). pairs.came) (going e)), put ∙ sym (ap (λ (pairs : Pairs). laid_at 0 pairs.bytes table) (going e)))
 
-  pub long-still : length last ≡ length table
-  long-still = ap length put ∙ length-laid 0 more table
-
-  module _ (next : ℕ) (e : came ≡ Ok next) where
-    pub done : comma ≡ length list → (Ok next ≡ (pairs_of list).came) × (last ≡ laid_at 0 (pairs_of list).bytes table)
-    unfolding pairs_behind
-    done c =
-        ended (Ok next)
-        (going e [] (last-part 44 list at.within is-comma inside is-part c) ∙ ap (λ (n : ℕ). record { came = Ok n; bytes = more }) (sym (counted-more next e)))
-
-    pub onward : comma < length list → Reading list table last next (comma + 1)
-    onward c = record {
-      taken = more;
-      counted = counted-more next e;
-      within = omega arith;
-      long = long-still;
-      held = put;
-      whole = sym (going e _ (next-part 44 list at.within is-comma inside is-part c));
-    }
+  pub onward : {next turn' : ℕ} → came ≡ Ok next → turn' ≡ turn + 1 → Reading list table last next turn'
+  onward {next} e is-next = record {
+    taken = more;
+    counted = counted-more next e;
+    held = put;
+    whole = rw is-next (sym (going e));
+  }

@@ -1,12 +1,11 @@
--- The digits at the front of a text, passed one by one. Assumes nothing.
-use Prim.Native.Nat.{ℕ, ◌+◌, ◌≤◌, ◌<◌}
+-- The digits at the front of a text, and how many they are. Assumes nothing.
+use Prim.Native.Nat.{ℕ, ◌+◌}
 use mathlib.Core.Path.{◌≡◌, refl, ap}
 use mathlib.Core.Bool.{Bool, true, false, cond}
 use mathlib.Core.List.{List, [], ◌∷◌}
-use native.Mathlib.Numerals.{add-one}
 use native.Mathlib.Omega.{arith}
-use lib.ListN.{length, take, drop, get_or, drop_of_length-le}
-use lib.Seq.{drop-cons}
+use lib.ListN.{length, take}
+use Rattle.std.specs.List.{prefix_len}
 use Rattle.asking.specs.Runs.{is_digit, digits_in}
 
 pub digits-front : (text : List ℕ) → take (length (digits_in text)) text ≡ digits_in text
@@ -19,24 +18,13 @@ digits-front (byte ∷ rest) = go (is_digit byte) (digits-front rest)
     go true front = ap {B = List ℕ} (λ r. byte ∷ r) front
     go false front = refl
 
-module _ (text : List ℕ) (from end : ℕ) (passed : from + length (digits_in (drop from text)) ≡ end + length (digits_in (drop end text))) where
-  pub one_more : end < length text → is_digit (get_or text end 0) ≡ true
-      → from + length (digits_in (drop from text)) ≡ end + 1 + length (digits_in (drop (end + 1) text))
-  unfolding digits_in
-  one_more h d =
-      let here : length (digits_in (drop end text)) ≡ 1 + length (digits_in (drop (end + 1) text)) = rw (drop-cons text end 0 h, d, add-one end) (omega arith) in
-      omega arith
-
-  pub stopped : end < length text → is_digit (get_or text end 0) ≡ false → end ≡ from + length (digits_in (drop from text))
-  unfolding digits_in
-  stopped h d =
-      let here : length (digits_in (drop end text)) ≡ 0 = rw (drop-cons text end 0 h, d) in
-      omega arith
-
-  pub at-end : length text ≤ end → end ≡ from + length (digits_in (drop from text))
-  unfolding digits_in
-  at-end h =
-      let here : length (digits_in (drop end text)) ≡ 0 = rw (drop_of_length-le text h) in
-      omega arith
-
-pub ruleset passing = (one_more, stopped, at-end)
+-- they are as many as std counts
+pub digits-counted : (text : List ℕ) → length (digits_in text) ≡ prefix_len is_digit text
+unfolding digits_in
+digits-counted [] = refl
+digits-counted (byte ∷ rest) = go (is_digit byte) (digits-counted rest)
+  where
+    go : (b : Bool) → length (digits_in rest) ≡ prefix_len is_digit rest
+        → length (cond b (byte ∷ digits_in rest) []) ≡ cond b (1 + prefix_len is_digit rest) 0
+    go true counted = omega arith
+    go false counted = refl

@@ -1,73 +1,47 @@
--- A list parted at a byte, by where that byte is found. Assumes nothing.
-use Prim.Native.Nat.{ℕ, zero, suc, ◌+◌, ◌≤◌, ◌<◌}
-use native.Mathlib.Omega.{arith}
-use mathlib.Core.Path.{◌≡◌, refl, ap, ◌∙◌}
-use mathlib.Core.Bool.{Bool, true, false}
+-- The parts that std's split gives are the definition's. Assumes nothing.
+use Prim.Native.Nat.{ℕ, ◌<◌}
+use mathlib.Core.Path.{◌≡◌, refl, ap, subst, ◌∙◌}
+use mathlib.Core.Bool.{Bool, false, cond}
 use mathlib.Core.List.{List, [], ◌∷◌}
-use borrow.Author.Tests.{eqb-true, eqb-false}
+use denote.Param.Members.{Mut}
+use denote.Ref.{Bor}
+use Rattle.std.specs.Prelude.{Option, Some, None}
+use Rattle.std.specs.List.{slice_split, onto_first}
+use Rattle.std.specs.declared.slice.Split.{Split}
+use Rattle.std.specs.Fn.{CalledAt}
+use Rattle.std.specs.Iterator.{Yields}
+use Rattle.std.specs.Slice.Iter.{split_steps, split_rest, split_done, split_callee}
+use Rattle.std.proofs.lemmas.Iterator.{YieldsList}
+use Rattle.std.proofs.lemmas.Iterator.Consumers.{YieldsList-turn, YieldsList-end}
+use Rattle.std.proofs.lemmas.Iterator.Splits.{YieldsList-from_slice_split}
 use lib.Dec.{eqb}
-use lib.ListN.{length, take, drop, length-drop}
-use lib.Seq.{drop-drop}
-use Rattle.asking.specs.Text.{part_of, found_at, index_of, on_first, parts_at}
-use Rattle.asking.proofs.Found.{ends_at, part-is}
+use lib.ListN.{length, get_or}
+use Rattle.asking.specs.Text.{on_first, parts_at}
 
-pub record Parted (byte : ℕ) (xs part : List ℕ) : Type 0 where
-  pub rest : List (List ℕ)
-  pub first : parts_at byte xs ≡ part ∷ rest
+same-first : (x : ℕ) (parts : List (List ℕ)) → onto_first x parts ≡ on_first x parts
+same-first x [] = refl
+same-first x (part ∷ parts) = refl
 
-module _ (byte : ℕ) where
-  split-last : (xs : List ℕ) → index_of byte xs ≡ length xs → parts_at byte xs ≡ take (index_of byte xs) xs ∷ []
-  unfolding parts_at index_of
-  split-last [] e = refl
-  split-last (x ∷ xs) e = go (eqb x byte) refl (split-last xs)
-    where
-      go : (b : Bool) → eqb x byte ≡ b → (index_of byte xs ≡ length xs → parts_at byte xs ≡ take (index_of byte xs) xs ∷ [])
-          → parts_at byte (x ∷ xs) ≡ take (index_of byte (x ∷ xs)) (x ∷ xs) ∷ []
-      go true t rest =
-          let z : zero ≡ suc (length xs) = rw t at e in
-          absurd (omega arith)
-      go false t rest =
-          let z : suc (index_of byte xs) ≡ suc (length xs) = rw t at e in
-          rw t (ap (on_first x) (rest (omega arith)))
+pub split-parts : (byte : ℕ) (list : List ℕ) → slice_split (λ x. eqb x byte) list ≡ parts_at byte list
+unfolding parts_at
+split-parts byte [] = refl
+split-parts byte (x ∷ list) =
+    ap (λ parts. cond (eqb x byte) ([] ∷ parts) (onto_first x parts)) (split-parts byte list)
+    ∙ ap (λ first. cond (eqb x byte) ([] ∷ parts_at byte list) first) (same-first x (parts_at byte list))
 
-  split-more : (xs : List ℕ) → index_of byte xs < length xs
-      → parts_at byte xs ≡ take (index_of byte xs) xs ∷ parts_at byte (drop (suc (index_of byte xs)) xs)
-  unfolding parts_at index_of
-  split-more [] h = absurd (omega arith)
-  split-more (x ∷ xs) h = go (eqb x byte) refl (split-more xs)
-    where
-      go : (b : Bool) → eqb x byte ≡ b
-          → (index_of byte xs < length xs → parts_at byte xs ≡ take (index_of byte xs) xs ∷ parts_at byte (drop (suc (index_of byte xs)) xs))
-          → parts_at byte (x ∷ xs) ≡ take (index_of byte (x ∷ xs)) (x ∷ xs) ∷ parts_at byte (drop (suc (index_of byte (x ∷ xs))) (x ∷ xs))
-      go true t rest = rw t
-      go false t rest =
-          let z : suc (index_of byte xs) < suc (length xs) = rw t at h in
-          rw t (ap (on_first x) (rest (omega arith)))
+-- what a loop over a split of bytes yields: the parts in turn
+module _ {F : Type 0} {g : Mut F (Bor ℕ × Unit {0}) Bool} {split : Split ℕ F} (s : Split ℕ F) (same : s ≡ split) (xs : List (Bor (List ℕ)))
+    (t : Split ℕ F) (yielded : Yields (split_steps g) s xs t) (byte : ℕ) (list : List ℕ)
+    (rest : split_rest split ≡ list) (undone : split_done split ≡ false) {f : F} (closure : split_callee split ≡ f)
+    (tests : (x : ℕ) (b : Bool) (q : F) → CalledAt g f x b q → (q ≡ f) × (b ≡ eqb x byte)) where
+  parts : YieldsList (split_steps g) (λ x. x.now) s (parts_at byte list)
+  parts =
+      subst (YieldsList (split_steps g) (λ x. x.now) s) (split-parts byte list)
+      (YieldsList-from_slice_split g (λ x. eqb x byte) list (ap split_rest same ∙ rest) (ap split_done same ∙ undone) (ap split_callee same ∙ closure) tests)
 
-module _ (byte : ℕ) (list : List ℕ) {from end : ℕ} {part : List ℕ} (h : from ≤ length list) (is-end : end ≡ found_at list from byte)
-    (within : end ≤ length list) (is-part : part ≡ part_of list from end) where
-  there : end ≡ from + index_of byte (drop from list)
-  there = ends_at byte list h is-end
+  pub part-turn : (r : Option (Bor (List ℕ))) (u : Split ℕ F) (x : Bor (List ℕ)) → r ≡ Some x → split_steps g t r u
+      → (length xs < length (parts_at byte list)) × (x.now ≡ get_or (parts_at byte list) (length xs) x.now)
+  part-turn = YieldsList-turn parts xs t yielded
 
-  the-part : part ≡ take (index_of byte (drop from list)) (drop from list)
-  the-part = is-part ∙ part-is byte list h is-end within
-
-  pub last-part : end ≡ length list → parts_at byte (drop from list) ≡ part ∷ []
-  last-part e = rw the-part (split-last byte (drop from list) (omega (arith, there, length-drop from list)))
-
-  pub next-part : end < length list → parts_at byte (drop from list) ≡ part ∷ parts_at byte (drop (end + 1) list)
-  next-part l =
-      let one_more : from + suc (index_of byte (drop from list)) ≡ end + 1 = omega (arith, there) in
-      let behind : drop (suc (index_of byte (drop from list))) (drop from list) ≡ drop (end + 1) list =
-      drop-drop (suc (index_of byte (drop from list))) from list ∙ ap (λ (n : ℕ). drop n list) one_more in
-      rw (the-part, ← behind) (split-more byte (drop from list) (omega (arith, there, length-drop from list)))
-
-  -- the part, and what comes behind it
-  pub parted : Parted byte (drop from list) part
-  parted = go (eqb end (length list)) refl
-    where
-      go : (b : Bool) → eqb end (length list) ≡ b → Parted byte (drop from list) part
-      go true e = record { rest = []; first = last-part (eqb-true _ _ e) }
-      go false e =
-          let more : (end ≡ length list → ⊥) = eqb-false end (length list) e in
-          record { rest = parts_at byte (drop (end + 1) list); first = next-part (omega arith) }
+  pub part-end : (r : Option (Bor (List ℕ))) (u : Split ℕ F) → r ≡ None → split_steps g t r u → length xs ≡ length (parts_at byte list)
+  part-end r u is step = (YieldsList-end parts xs t yielded r u is step).1

@@ -7,6 +7,7 @@ use Rattle.definition.proofs.Fixes.{Fixes}
 use Rattle.asking.specs.Page.{Put, shown}
 use Rattle.asking.specs.declared.terminal.Page as terminal
 use Rattle.asking.proofs.terminal.Page.new.Reads as new
+use Rattle.asking.proofs.terminal.Page.over.Reads as over
 use Rattle.asking.proofs.terminal.Page.text.Reads as text
 use Rattle.asking.proofs.terminal.Page.put_byte.Reads as put_byte
 use Rattle.asking.proofs.terminal.Page.put.Reads as put
@@ -16,6 +17,9 @@ one-page p q = p.held ∙ sym q.held
 
 pub new-one-page : Fixes (λ κs x at. shown x) new.Post
 new-one-page κs a x y at_x at_y p q = p.0 ∙ sym q.0
+
+pub over-one-page : Fixes (λ κs x at. shown x) over.Post
+over-one-page κs a x y at_x at_y p q = p.0 ∙ sym q.0
 
 pub text-one : Fixes (λ κs x at. x.now) text.Post
 text-one κs a x y at_x at_y p q = p ∙ sym q

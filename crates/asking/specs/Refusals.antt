@@ -1,4 +1,4 @@
--- What a refusal is called: 01's number and name. Assumes nothing.
+-- What a refusal is called: its number and name in docs/RULES.md. Assumes nothing.
 use Rattle.std.specs.Prelude.{ℕ, List, ◌++◌}
 use Rattle.definition.specs.declared.Refusal.{Refusal}
 use Rattle.definition.specs.declared.Refusal.TheVariants.{

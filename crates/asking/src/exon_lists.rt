@@ -11,7 +11,9 @@ pub const MOST_PAIRS: usize = 513;
 /// Why a list of exons is no table: a part of it is no pair, or it has more pairs than a table has room for.
 #[derive(Clone, Copy)]
 pub enum BadExons {
+    /// A part between commas is not two numbers with a dash between them.
     BadPair,
+    /// There are more than `MOST_PAIRS`.
     TooMany,
 }
 
@@ -74,14 +76,8 @@ pub fn read_exons(list: &[u8], table: &mut [u8]) -> Result<usize, BadExons>
     ensures table_after { table.new ≡ laid_at 0 (pairs_of list.now).bytes table.old }
 {
     let mut size = 0;
-    let mut from = 0;
-    while from <= list.len() {
-        let comma = text::find(list, from, b',');
-        size = put_exon(text::part(list, from, comma), table, size)?;
-        if comma == list.len() {
-            return Ok(size);
-        }
-        from = comma + 1;
+    for pair in list.split(|byte| *byte == b',') {
+        size = put_exon(pair, table, size)?;
     }
-    Err(BadExons::BadPair)
+    Ok(size)
 }

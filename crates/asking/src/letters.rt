@@ -33,6 +33,7 @@ fn letters_start(text: &[u8]) -> usize
 }
 
 // A byte kept in a target that has this many letters and room for one more, unless it is blank; how many it has then.
+// The target and how many letters it has, and no slice that grows: `letters_laid` speaks of every byte of the lent buffer.
 fn keep(byte: u8, target: &mut [u8], size: usize) -> usize
     requires { size < length target.old }
     ensures value { result ≡ cond (is_blank byte) size (size + 1) }

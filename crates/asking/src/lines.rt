@@ -12,6 +12,7 @@ pub fn word(text: &[u8], from: usize) -> &[u8]
 }
 
 /// The line of a number, which counts from 0: empty where the text has no such line.
+// No `split`: the edit `line_from_the_start` takes the line's bytes from an index, and `always_the_second_line` the index of the next.
 pub fn line(text: &[u8], number: usize) -> &[u8]
     ensures { Line text.now number result.now }
 {

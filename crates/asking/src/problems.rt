@@ -13,22 +13,34 @@ use crate::terminal::Page;
 /// Why a target is not read.
 #[derive(Clone, Copy)]
 pub enum Unread {
+    /// Neither its letters nor a file are given.
     Missing,
+    /// Both its letters and a file are given.
     Twice,
+    /// The file can't be read, or its path is no UTF-8.
     Unreadable,
+    /// The file has more than 262,144 bytes.
     LongFile,
+    /// The target has more than 65,535 letters.
     LongTarget,
+    /// The file has more than one FASTA record.
     SecondRecord,
 }
 
 /// Why words reach no outcome.
 #[derive(Clone, Copy)]
 pub enum Problem {
+    /// An option is broken: why, and where it begins in the text of the words.
     Wrong(Fault, usize),
+    /// The target is not read.
     Unread(Unread),
+    /// No edit is given.
     NoEdit,
+    /// No range is given.
     NoRange,
+    /// A part of the list of exons is no pair.
     BadExons,
+    /// The list of exons has more than 513 pairs.
     TooManyExons,
 }
 

@@ -10,12 +10,15 @@ pub fn read_full<R: Read>(source: &mut R, space: &mut [u8]) -> usize
     ensures bytes { Consumes (R.remaining source.old) (R.remaining source.new) (take result space.new) }
 {
     let mut size = 0;
+    // A step is what one read brings, so no `for` counts it; std's `read_exact` says too little of a source that ends.
     while size < space.len() {
-        match source.read(&mut space[size..]) {
-            Ok(0) => break,
-            Ok(came) => size += came,
-            Err(_) => break,
+        let Ok(came) = source.read(&mut space[size..]) else {
+            break;
+        };
+        if came == 0 {
+            break;
         }
+        size += came;
     }
     size
 }

@@ -1,4 +1,4 @@
-// The refusals, by 01's numbers and names.
+// The refusals in words, by their numbers and names in docs/RULES.md.
 ghost use Rattle.std.specs.Prelude.{◌≡◌};
 ghost use Rattle.asking.specs.Page.{Put};
 ghost use Rattle.asking.specs.Refusals.{refusal_name, refusal_text};
@@ -6,8 +6,9 @@ ghost use Rattle.asking.specs.Refusals.{refusal_name, refusal_text};
 use crate::terminal::Page;
 use definition::Refusal;
 
+/// The name of a refusal, as `BadBase`.
 #[tactic(auto, unfolding(crate::specs::Refusals::refusal_name))]
-fn refusal_name(refusal: Refusal) -> &'static str
+pub fn refusal_name(refusal: Refusal) -> &'static str
     ensures { result.now ≡ refusal_name refusal }
 {
     match refusal {

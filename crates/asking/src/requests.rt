@@ -18,7 +18,8 @@ pub struct Words {
     pub alternative: Option<usize>,
 }
 
-/// The numbers that words stand for, as the normalizer takes them. An edit has none where it was not given.
+/// The numbers that words stand for, as the normalizer takes them: kinds from 0 to 2, edits from 0 to 4, directions 0 and 1, and the window as it was
+/// given. An edit has none where it was not given.
 #[derive(Clone, Copy)]
 pub struct Codes {
     pub kind: u32,
@@ -27,14 +28,14 @@ pub struct Codes {
     pub window: u32,
 }
 
-/// The bounds of the CDS: `None` for one that was not given.
+/// The bounds of the CDS, counted from 0: `None` for one that was not given.
 #[derive(Clone, Copy)]
 pub struct Bounds {
     pub start: Option<u32>,
     pub end: Option<u32>,
 }
 
-/// What words ask for. The range is that of the edit, from its start up to its end.
+/// What words ask for. The range is that of the edit, counted from 0, from its start up to its end, which is not in it.
 #[derive(Clone, Copy)]
 pub struct Request {
     pub words: Words,
@@ -46,13 +47,21 @@ pub struct Request {
 /// What is wrong with an option.
 #[derive(Clone, Copy)]
 pub enum Fault {
+    /// The word is no option.
     UnknownOption,
+    /// No word stands behind the option.
     NoValue,
+    /// The kind has no such name.
     BadKind,
+    /// The edit has no such name.
     BadEdit,
+    /// The direction has no such name.
     BadDirection,
+    /// The window is no number from 0 to 2,147,483,647.
     BadWindow,
+    /// An end of the range is no number from 0 to 2,147,483,647.
     BadRange,
+    /// A bound of the CDS is no number from 0 to 2,147,483,647.
     BadBound,
 }
 

@@ -8,18 +8,15 @@ use crate::terminal::Page;
 use crate::{decimals, text};
 
 // Where the digits that begin at an index end.
-#[tactic(auto, using(crate::proofs::RunsDigits::passing))]
 fn digits_end(field: &[u8], from: usize) -> usize
     requires { from ≤ length field.now }
     ensures value { result ≡ from + length (digits_in (drop from field.now)) }
     ensures upper_bound { result ≤ length field.now }
 {
-    for end in from..field.len() {
-        if !field[end].is_ascii_digit() {
-            return end;
-        }
-    }
-    field.len()
+    let digits = field[from..]
+        .iter()
+        .take_while(|byte| byte.is_ascii_digit());
+    from + digits.count()
 }
 
 // Where the run that begins at an index ends: after its count, if a star follows the byte.

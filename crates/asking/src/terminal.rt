@@ -17,7 +17,16 @@ impl<'a> Page<'a> {
         ensures empty { shown result ≡ page bytes.old 0 }
         ensures same_buffer { result.bytes.ghost_name ≡ bytes.entry.ghost_name }
     {
-        Page { bytes, used: 0 }
+        Page::over(bytes, 0)
+    }
+
+    /// A page over a buffer of which so many bytes are used: what it holds stays, and a text goes behind it. A page with more used bytes than there are is
+    /// full.
+    pub fn over(bytes: &'a mut [u8], used: usize) -> Page<'a>
+        ensures held { shown result ≡ page bytes.old used }
+        ensures same_buffer { result.bytes.ghost_name ≡ bytes.entry.ghost_name }
+    {
+        Page { bytes, used }
     }
 
     /// What the page holds.

@@ -18,7 +18,7 @@ pub fn part(text: &[u8], from: usize, to: usize) -> &[u8]
 }
 
 /// Where the first of a byte stands at or after an index: the text's end where there is none.
-#[tactic(auto, using(crate::proofs::Found::index_here, crate::proofs::Found::index_past, crate::proofs::Found::index_end))]
+// No `Option`: `found_at` and `after_found`, the theorems `find-one` and `after_one` and the edits of both speak of the text's end.
 pub fn find(text: &[u8], from: usize, byte: u8) -> usize
     ensures value { result ≡ found_at text.now from byte }
     ensures upper_bound { (result ≤ length text.now) × (min from (length text.now) ≤ result) }
@@ -26,12 +26,10 @@ pub fn find(text: &[u8], from: usize, byte: u8) -> usize
     if text.len() < from {
         return text.len();
     }
-    for i in from..text.len() {
-        if text[i] == byte {
-            return i;
-        }
+    match text[from..].iter().position(|here| *here == byte) {
+        Some(at) => from + at,
+        None => text.len(),
     }
-    text.len()
 }
 
 /// The index behind the first of a byte at or after an index: the text's end where there is none.
@@ -39,9 +37,5 @@ pub fn after(text: &[u8], from: usize, byte: u8) -> usize
     ensures value { result ≡ after_found text.now from byte }
     ensures upper_bound { (result ≤ length text.now) × (min (from + 1) (length text.now) ≤ result) }
 {
-    let at = find(text, from, byte);
-    if at < text.len() {
-        return at + 1;
-    }
-    text.len()
+    (find(text, from, byte) + 1).min(text.len())
 }

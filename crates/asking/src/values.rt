@@ -7,8 +7,9 @@ use crate::terminal::Page;
 use crate::text;
 use definition::Class;
 
+/// The name of a class, in lower case.
 #[tactic(auto, unfolding(crate::specs::Values::class_name))]
-fn class_name(class: Class) -> &'static str
+pub fn class_name(class: Class) -> &'static str
     ensures { result.now ≡ class_name class }
 {
     match class {
@@ -38,6 +39,7 @@ pub fn put_range(page: &mut Page, start: usize, end: usize)
 }
 
 /// Puts an allele, which is the front of its buffer: a dash where it is empty.
+// Buffer and size come apart, as an answer has them: `allele_text` speaks of both.
 pub fn put_allele(page: &mut Page, buffer: &[u8], size: usize)
     ensures { Put page.old (allele_text buffer.now size) page.new }
 {

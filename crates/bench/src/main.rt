@@ -1,5 +1,6 @@
 // The bench: rows on standard input, each a request, the answer that it should get, and what the row shows. A row's answer that differs is printed
-// beside the expected one. The file `stdin` has every row of 01's bench, both sides of each limit, and a row for each fault that those rows let through.
+// beside the expected one. The file `stdin` has every row of the bench of docs/RULES.md, both sides of each limit, and a row for each fault that those
+// rows let through.
 #![tactic(auto)]
 
 mod answers;
@@ -71,10 +72,7 @@ fn agrees(answer: &[u8], expected: &[u8]) -> bool {
 
 // The bytes of an answer buffer, where a field of a row tells them: 1,025 where it does not.
 fn room_in(field: &[u8]) -> usize {
-    match decimals::decimal(field) {
-        Some(room) => room as usize,
-        None => ANSWER_ROOM,
-    }
+    decimals::decimal(field).map_or(ANSWER_ROOM, |room| room as usize)
 }
 
 // Whether the answer to a row's words is the one expected; it is said where it is not.

@@ -7,7 +7,7 @@ pub mod pieces;
 ghost use Rattle.std.specs.Prelude.{◌≡◌, true, ◌<◌};
 ghost use Rattle.definition.specs.Piece.{exons_in, exons_in_order, pieces_of, exon_piece, transcript_piece};
 
-use definition::{Bound, Exon, Piece, Refusal, Zero};
+use definition::{Cds, Exon, Piece, Range, Refusal, Zero};
 use tables::exons::Exons;
 
 // The exon of the first base and that of the last make a piece if they are one exon.
@@ -26,25 +26,19 @@ fn exon_piece(first: Option<Exon>, last: Option<Exon>) -> Result<Piece, Refusal>
     })
 }
 
-/// The exon that holds the range from `start` up to `end`, cut on the range's side of CDS start, then of CDS end.
+/// The exon that holds the range, cut on the range's side of CDS start, then of CDS end.
 ///
 /// # Errors
 /// `ExonNotFoundForStart` and `ExonNotFoundForEnd` where no exon holds the range's first or last base, `ExonIntronBoundary` where two exons do,
 /// `UtrExonBoundary` where the range has bases on both sides of a bound.
 #[tactic(auto, unfolding(definition::specs::Piece::transcript_piece, definition::specs::Piece::pieces_of))]
-pub fn get_boundary(
-    table: &[u8],
-    cds_start: Bound,
-    cds_end: Bound,
-    start: Zero,
-    end: Zero,
-) -> Result<Piece, Refusal>
-    requires { (start.0 < end.0) × (exons_in_order 0 (exons_in table.now) ≡ true) }
-    ensures { result ≡ transcript_piece (pieces_of table.now) cds_start cds_end start.0 end.0 }
+pub fn get_boundary(table: &[u8], cds: Cds, range: Range) -> Result<Piece, Refusal>
+    requires { (range.start.0 < range.end.0) × (exons_in_order 0 (exons_in table.now) ≡ true) }
+    ensures { result ≡ transcript_piece (pieces_of table.now) cds.start cds.end range.start.0 range.end.0 }
 {
     let exons = Exons::of(table);
-    let last_base = end.0 - 1;
-    let exon = exon_piece(exons.holding(start), exons.holding(Zero(last_base)));
-    let cut = cuts::cut_at(cds_start, start, end, exon);
-    cuts::cut_at(cds_end, start, end, cut)
+    let last_base = range.end.0 - 1;
+    let exon = exon_piece(exons.holding(range.start), exons.holding(Zero(last_base)));
+    let cut = cuts::cut_at(cds.start, range, exon);
+    cuts::cut_at(cds.end, range, cut)
 }

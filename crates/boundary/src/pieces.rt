@@ -4,7 +4,7 @@ ghost use Rattle.definition.specs.Piece.{whole_piece, piece_for};
 ghost use Rattle.boundary.specs.ReadInOrder.{ReadInOrder};
 
 use crate::get_boundary;
-use definition::{Bound, Kind, OPEN_END, Piece, Refusal, Zero};
+use definition::{Cds, Kind, OPEN_END, Piece, Range, Refusal, Zero};
 
 // The piece of a target that no exon cuts.
 #[tactic(auto, unfolding(definition::specs::Piece::whole_piece))]
@@ -17,24 +17,17 @@ fn whole_piece() -> Piece
     }
 }
 
-/// The piece of a range from `start` up to `end`: open targets and crossing transcripts have one piece, and their tables are not read.
+/// The piece of a range: open targets and crossing transcripts have one piece, and their tables are not read.
 ///
 /// # Errors
 /// On a transcript, those of `get_boundary`.
 #[tactic(auto, unfolding(definition::specs::Piece::piece_for))]
-pub fn piece_for(
-    kind: Kind,
-    table: &[u8],
-    cds_start: Bound,
-    cds_end: Bound,
-    start: Zero,
-    end: Zero,
-) -> Result<Piece, Refusal>
-    requires { (start.0 < end.0) × ReadInOrder kind table.now }
-    ensures { result ≡ piece_for kind table.now cds_start cds_end start.0 end.0 }
+pub fn piece_for(kind: Kind, table: &[u8], cds: Cds, range: Range) -> Result<Piece, Refusal>
+    requires { (range.start.0 < range.end.0) × ReadInOrder kind table.now }
+    ensures { result ≡ piece_for kind table.now cds.start cds.end range.start.0 range.end.0 }
 {
     match kind {
-        Kind::Transcript => get_boundary(table, cds_start, cds_end, start, end),
+        Kind::Transcript => get_boundary(table, cds, range),
         Kind::Open | Kind::Crossing => Ok(whole_piece()),
     }
 }

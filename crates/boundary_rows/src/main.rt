@@ -4,27 +4,20 @@
 
 ghost use Rattle.std.specs.Prelude.{◌<◌};
 
-use asking::{decimals, exon_lists, reading, text};
+use asking::{decimals, exon_lists, reading, refusals, text};
 use boundary::pieces;
-use definition::{Bound, Kind, Piece, Refusal, Zero};
+use definition::{Bound, Cds, Kind, Piece, Range, Refusal, Zero};
 use std::io;
 
-// The number and the name of a refusal that a row may show.
-fn titled(refusal: Refusal) -> &'static str {
-    match refusal {
-        Refusal::BadTables => "10 BadTables",
-        Refusal::ExonNotFoundForStart => "12 ExonNotFoundForStart",
-        Refusal::ExonNotFoundForEnd => "13 ExonNotFoundForEnd",
-        Refusal::ExonIntronBoundary => "14 ExonIntronBoundary",
-        Refusal::UtrExonBoundary => "15 UtrExonBoundary",
-        _ => "of another row",
-    }
-}
-
+// A piece, or the number and the name of a refusal.
 fn say_found(rt: &impl Print, found: Result<Piece, Refusal>) -> io::Result<()> {
     match found {
         Ok(piece) => println!(rt; ": piece {}..{}", piece.left.0, piece.right.0),
-        Err(refusal) => println!(rt; ": refusal {}", titled(refusal)),
+        Err(refusal) => println!(rt;
+            ": refusal {} {}",
+            refusal.number(),
+            refusals::refusal_name(refusal)
+        ),
     }
 }
 
@@ -32,21 +25,18 @@ fn say_found(rt: &impl Print, found: Result<Piece, Refusal>) -> io::Result<()> {
 fn found_for(
     kind: Kind,
     table: &[u8],
-    cds_start: Bound,
-    cds_end: Bound,
+    cds: Cds,
     size: usize,
-    start: Zero,
-    end: Zero,
+    range: Range,
 ) -> Result<Piece, Refusal>
-    requires { start.0 < end.0 }
+    requires { range.start.0 < range.end.0 }
 {
     match kind {
-        Kind::Open | Kind::Crossing => {
-            pieces::piece_for(kind, table, cds_start, cds_end, start, end)
-        }
+        Kind::Open | Kind::Crossing => pieces::piece_for(kind, table, cds, range),
+        // Asked in its own arm, where the check sees that the table is in order: behind a joined `if` that fact is lost.
         Kind::Transcript => {
-            if tables::tables_hold(table, cds_start, cds_end, size) {
-                return pieces::piece_for(kind, table, cds_start, cds_end, start, end);
+            if tables::tables_hold(table, cds, size) {
+                return pieces::piece_for(kind, table, cds, range);
             }
             Err(Refusal::BadTables)
         }
@@ -82,11 +72,8 @@ fn bound_in(field: &[u8]) -> Bound {
     }
 }
 
-// The bytes of the table that a field's exons fill.
+// The bytes of the table that a field's exons fill: none where a part of it is no pair, as where it is empty.
 fn fill_table(exons: &[u8], table: &mut [u8]) -> usize {
-    if exons.is_empty() {
-        return 0;
-    }
     exon_lists::read_exons(exons, table).unwrap_or(0)
 }
 
@@ -97,16 +84,22 @@ fn say_piece(rt: &impl Print, row: &[u8], table: &[u8]) -> io::Result<()> {
     if end <= start {
         return println!(rt; ": no range");
     }
+    let cds = Cds {
+        start: bound_in(field(row, 4)),
+        end: bound_in(field(row, 5)),
+    };
+    let range = Range {
+        start: Zero(start),
+        end: Zero(end),
+    };
     say_found(
         rt,
         found_for(
             kind_in(field(row, 1)),
             table,
-            bound_in(field(row, 4)),
-            bound_in(field(row, 5)),
+            cds,
             number_or(field(row, 6), 0),
-            Zero(start),
-            Zero(end),
+            range,
         ),
     )
 }

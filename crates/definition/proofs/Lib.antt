@@ -12,6 +12,5 @@ pub mod Steps
 pub mod Fixes
 pub mod Laid
 pub mod Parts
-pub mod CountsUnique
 pub mod NumbersUnique
 pub mod PositionsUnique

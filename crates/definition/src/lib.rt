@@ -2,9 +2,9 @@
 // What the types mean stands in specs/, the laws in proofs/; the rules that they serve are in docs/RULES.md.
 #![tactic(auto)]
 
-pub mod counts;
-pub mod numbers;
+pub mod classes;
 pub mod positions;
+pub mod refusals;
 
 // The numbers of specs/Limits.antt. That these are the same follows where they are read: in rows 2, 3, 7 and 9, and in the whole piece.
 
@@ -62,6 +62,20 @@ pub enum Bound {
     Absent,
     At(usize),
     Negative,
+}
+
+/// The two bounds of a transcript's CDS, each of which may be absent.
+#[derive(Clone, Copy)]
+pub struct Cds {
+    pub start: Bound,
+    pub end: Bound,
+}
+
+/// A range of the target: the bases from `start` up to `end`.
+#[derive(Clone, Copy)]
+pub struct Range {
+    pub start: Zero,
+    pub end: Zero,
 }
 
 /// The rows of the table of refusals, by name and number. Number 11 is reserved and has none.

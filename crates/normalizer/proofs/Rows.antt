@@ -12,7 +12,7 @@ use Rattle.definition.specs.declared.Kind.{Kind}
 use Rattle.definition.specs.declared.Direction.{Direction}
 use Rattle.definition.specs.declared.Refusal.TheVariants.{CoordinatesOutOfBounds}
 use Rattle.definition.specs.declared.Zero.{Zero}
-use Rattle.normalizer.specs.declared.ranges.Range.{Range}
+use Rattle.definition.specs.declared.Range.{Range}
 use Rattle.normalizer.specs.Range.{range_from, ordered_range, range_of, range_read}
 use Rattle.normalizer.proofs.RangesRead.{range_read_off}
 use Rattle.definition.specs.Request.{Request, coordinate_of, kind_of, edit_of, direction_of, bound_of, start_of, end_of, change_of}

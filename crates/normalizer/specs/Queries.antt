@@ -13,29 +13,29 @@ use Rattle.normalizer.specs.SpellingAsked.{Ranged, Read}
 
 -- the change that it spells, the piece of its range, and its answer at once
 abbrev pub spelled_by : Query → Change
-spelled_by q = spelled q.edit q.target.now q.start.0 q.end.0 q.alternative.now
+spelled_by q = spelled q.edit q.target.now q.range.start.0 q.range.end.0 q.alternative.now
 
 abbrev pub piece_by : Query → Result Piece Refusal
-piece_by q = piece_for q.kind q.exons.now q.cds_start q.cds_end q.start.0 q.end.0
+piece_by q = piece_for q.kind q.exons.now q.cds.start q.cds.end q.range.start.0 q.range.end.0
 
 abbrev pub shortcut_by : Query → Option Named
-shortcut_by q = shortcut q.edit q.target.now q.start.0 q.end.0 q.alternative.now
+shortcut_by q = shortcut q.edit q.target.now q.range.start.0 q.range.end.0 q.alternative.now
 
 -- past row 5, with a window that passed row 2 and a target that passed row 3
 pub record InTarget (q : Query) : Type 0 where
-  pub ordered : q.start.0 < q.end.0
-  pub in_target : q.end.0 ≤ length q.target.now
+  pub ordered : q.range.start.0 < q.range.end.0
+  pub in_target : q.range.end.0 ≤ length q.target.now
   pub short : length q.target.now ≤ longest_target
   pub some : 1 ≤ q.window
   pub most : q.window ≤ longest_window
 
 -- past row 10
 abbrev pub HasPassed : Query → Type 0
-HasPassed q = Passed q.target.now q.kind q.exons.now q.start.0 q.end.0 q.edit q.alternative.now q.window
+HasPassed q = Passed q.target.now q.kind q.exons.now q.range.start.0 q.range.end.0 q.edit q.alternative.now q.window
 
 -- in a piece that holds its range, and with an alternative that passed rows 6 and 7
 abbrev pub InPiece : Query → Piece → Type 0
-InPiece q piece = Ranged piece q.target.now q.start.0 q.end.0 q.window
+InPiece q piece = Ranged piece q.target.now q.range.start.0 q.range.end.0 q.window
 
 abbrev pub Reads : Query → Type 0
-Reads q = Read q.edit q.start.0 q.end.0 q.alternative.now
+Reads q = Read q.edit q.range.start.0 q.range.end.0 q.alternative.now

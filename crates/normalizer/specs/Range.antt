@@ -2,7 +2,7 @@
 use Rattle.std.specs.Prelude.{ℕ, cond, ◌||◌, leb, ltb, ℤ, pos}
 use Rattle.std.specs.Int.Signed.{lt_z, le_z, mag}
 use Rattle.definition.specs.declared.Zero.{Zero}
-use Rattle.normalizer.specs.declared.ranges.Range.{Range}
+use Rattle.definition.specs.declared.Range.{Range}
 use Rattle.std.specs.Prelude.{None, Option, Some}
 
 abbrev pub range_from : Zero → Zero → Range

@@ -4,17 +4,17 @@ ghost use Rattle.definition.specs.Bases.{all_bases};
 ghost use Rattle.definition.specs.Verdict.{exceeds, read_alternative};
 
 use crate::edits::reads_alternative;
-use definition::{Edit, LONGEST_ALLELE, Zero};
+use definition::{Edit, LONGEST_ALLELE, Range};
 use sequences::bases;
 
 /// Row 7: the range, or an alternative that is read, has more bases than the longest allele.
 #[tactic(auto, using(crate::proofs::AllelesReadRead::exceeds_read))]
-pub fn too_long(edit: Edit, start: Zero, end: Zero, alternative: &[u8]) -> bool
-    requires { start.0 ≤ end.0 }
-    ensures { result ≡ exceeds edit start.0 end.0 alternative.now }
+pub fn too_long(edit: Edit, range: Range, alternative: &[u8]) -> bool
+    requires { range.start.0 ≤ range.end.0 }
+    ensures { result ≡ exceeds edit range.start.0 range.end.0 alternative.now }
 {
     let reads = reads_alternative(edit);
-    (LONGEST_ALLELE < end.0 - start.0) | (reads & (LONGEST_ALLELE < alternative.len()))
+    (LONGEST_ALLELE < range.end.0 - range.start.0) | (reads & (LONGEST_ALLELE < alternative.len()))
 }
 
 /// Row 8: an alternative that is read holds a byte that is no base.

@@ -4,15 +4,15 @@ ghost use Rattle.std.specs.Prelude.{◌≡◌, ◌≤◌};
 ghost use Rattle.definition.specs.Verdict.{misfits};
 ghost use Rattle.normalizer.specs.Reads.{reads};
 
-use definition::{Edit, Zero};
+use definition::{Edit, Range};
 
 /// Row 6: an insertion whose range is not two flanking bases, or with nothing to insert.
-pub fn bad_insertion(edit: Edit, start: Zero, end: Zero, alternative: &[u8]) -> bool
-    requires { start.0 ≤ 4294967295 }
-    ensures { result ≡ misfits edit start.0 end.0 alternative.now }
+pub fn bad_insertion(edit: Edit, range: Range, alternative: &[u8]) -> bool
+    requires { range.start.0 ≤ 4294967295 }
+    ensures { result ≡ misfits edit range.start.0 range.end.0 alternative.now }
 {
     match edit {
-        Edit::Insert => (end.0 != start.0 + 2) | alternative.is_empty(),
+        Edit::Insert => (range.end.0 != range.start.0 + 2) | alternative.is_empty(),
         Edit::Duplicate | Edit::Delete | Edit::Replace | Edit::Invert => false,
     }
 }

@@ -20,7 +20,7 @@ ghost use Rattle.normalizer.specs.Asked.{asked};
 
 use crate::queries::Query;
 use crate::refusals::refuse_if;
-use definition::{Outcome, Refusal};
+use definition::{Cds, Outcome, Refusal};
 use results::buffers::Buffers;
 use sequences::bases;
 
@@ -50,17 +50,17 @@ pub fn normalize(
     refuse_if(limits::bad_window(window), Refusal::BadWindow)?;
     refuse_if(limits::bad_target(target.len()), Refusal::BadTarget)?;
     refuse_if(!bases::all_bases(target), Refusal::BadBase)?;
-    let Some(range) = ranges::range_within(start, end, target.len()) else {
-        return Err(Refusal::CoordinatesOutOfBounds);
-    };
+    let read = ranges::range_within(start, end, target.len());
+    let range = read.ok_or(Refusal::CoordinatesOutOfBounds)?;
     let query = Query {
         target,
         kind: codes::kind_of(kind),
         exons,
-        cds_start: codes::bound_of(cds_start),
-        cds_end: codes::bound_of(cds_end),
-        start: range.start,
-        end: range.end,
+        cds: Cds {
+            start: codes::bound_of(cds_start),
+            end: codes::bound_of(cds_end),
+        },
+        range,
         edit: codes::edit_of(edit),
         alternative,
         direction: codes::direction_of(direction),

@@ -1,17 +1,14 @@
 // A request whose codes and range are read.
-use definition::{Bound, Direction, Edit, Kind, Zero};
+use definition::{Cds, Direction, Edit, Kind, Range};
 
-/// A request past row 5: what its codes and its numbers stand for, and the range from `start` up to `end` in the target. The exon table is read later, from its
-/// bytes.
+/// A request past row 5: what its codes and its numbers stand for, and its range in the target. The exon table is read later, from its bytes.
 #[derive(Clone, Copy)]
 pub struct Query<'a> {
     pub target: &'a [u8],
     pub kind: Kind,
     pub exons: &'a [u8],
-    pub cds_start: Bound,
-    pub cds_end: Bound,
-    pub start: Zero,
-    pub end: Zero,
+    pub cds: Cds,
+    pub range: Range,
     pub edit: Edit,
     pub alternative: &'a [u8],
     pub direction: Direction,

@@ -3,14 +3,7 @@ ghost use Rattle.std.specs.Prelude.{◌≡◌};
 ghost use Rattle.definition.specs.Request.{coordinate_of};
 ghost use Rattle.normalizer.specs.Range.{ordered_range, range_of, range_read};
 
-use definition::Zero;
-
-/// A range with some base in it, which lies in the target: the bases from `start` up to `end`.
-#[derive(Clone, Copy)]
-pub struct Range {
-    pub start: Zero,
-    pub end: Zero,
-}
+use definition::{Range, Zero};
 
 // An end of the range, signed as the caller gives it: no other function meets a number below 0. The test stands written out, and not in a TryFrom, for
 // the edits that turn it: `minus_1_is_a_position` and `coordinate_0_is_below`.
@@ -24,7 +17,7 @@ fn coordinate_of(position: i32) -> Option<Zero>
     Some(Zero(position as usize))
 }
 
-// Two positions in their order, inside the target.
+// A range with some base in it, which lies in the target.
 fn ordered(start: Zero, end: Zero, size: usize) -> Option<Range>
     ensures { result ≡ ordered_range start end size }
 {

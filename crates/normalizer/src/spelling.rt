@@ -13,7 +13,7 @@ ghost use Rattle.normalizer.specs.Spelled.{gaps_of, copied_by};
 use crate::edits;
 use crate::queries::Query;
 use alleles::Allele;
-use definition::{Edit, LONGEST_ALLELE, Outcome, Piece, Zero};
+use definition::{Edit, LONGEST_ALLELE, Outcome, Piece, Range, Zero};
 use results::buffers::Buffers;
 use results::changes::Moved;
 use sequences::bases;
@@ -61,31 +61,34 @@ fn moved(query: &Query, piece: Piece, spelled: Spelled, buffers: &mut Buffers) -
 
 // The two gaps of the change that an edit spells: an insertion goes in behind its first flanking base, a duplication's copy behind its range.
 #[tactic(auto, unfolding(crate::specs::Spelled::gaps_of))]
-fn gaps_of(edit: Edit, start: Zero, end: Zero) -> Gaps
-    requires { start.0 ≤ longest_target }
-    ensures { result ≡ gaps_of edit start end }
+fn gaps_of(edit: Edit, range: Range) -> Gaps
+    requires { range.start.0 ≤ longest_target }
+    ensures { result ≡ gaps_of edit range.start range.end }
 {
     match edit {
         Edit::Insert => {
-            let gap = Zero(start.0 + 1);
+            let gap = Zero(range.start.0 + 1);
             Gaps { from: gap, to: gap }
         }
-        Edit::Duplicate => Gaps { from: end, to: end },
+        Edit::Duplicate => Gaps {
+            from: range.end,
+            to: range.end,
+        },
         Edit::Delete | Edit::Replace | Edit::Invert => Gaps {
-            from: start,
-            to: end,
+            from: range.start,
+            to: range.end,
         },
     }
 }
 
 // The bases of the target that an edit puts in once more: a duplication's range, and none otherwise.
 #[tactic(auto, unfolding(crate::specs::Spelled::copied_by))]
-fn copied<'a>(edit: Edit, target: &'a [u8], start: Zero, end: Zero) -> &'a [u8]
-    requires { (start.0 < end.0) × (end.0 ≤ length target.now) }
-    ensures { result.now ≡ copied_by edit target.now start.0 end.0 }
+fn copied<'a>(edit: Edit, target: &'a [u8], range: Range) -> &'a [u8]
+    requires { (range.start.0 < range.end.0) × (range.end.0 ≤ length target.now) }
+    ensures { result.now ≡ copied_by edit target.now range.start.0 range.end.0 }
 {
     match edit {
-        Edit::Duplicate => &target[start.0..end.0],
+        Edit::Duplicate => &target[range.start.0..range.end.0],
         Edit::Insert | Edit::Delete | Edit::Replace | Edit::Invert => &[],
     }
 }
@@ -96,24 +99,23 @@ fn spell_from_target(query: &Query, piece: Piece, buffers: &mut Buffers) -> Outc
     requires reads_none { reads query.now.edit ≡ false }
     requires room { Room buffers.old.reference.now buffers.old.alternative.now }
     ensures met { MetIn
-        (moved_in query.now.direction query.now.kind piece query.now.target.now (spelled query.now.edit query.now.target.now query.now.start.0 query.now.end.0 []))
+        (moved_in query.now.direction query.now.kind piece query.now.target.now (spelled query.now.edit query.now.target.now query.now.range.start.0 query.now.range.end.0 []))
         result buffers.old buffers.new }
     ensures same_buffers { SameBuffers buffers.old buffers.new }
 {
-    let start = query.start;
-    let end = query.end;
+    let range = query.range;
     if let Edit::Invert = query.edit {
         let mut buffer = [0u8; LONGEST_ALLELE];
-        let size = bases::revcomp(&query.target[start.0..end.0], &mut buffer);
+        let size = bases::revcomp(&query.target[range.start.0..range.end.0], &mut buffer);
         let inverted = Spelled {
-            from: start,
-            to: end,
+            from: range.start,
+            to: range.end,
             inserted: &buffer[..size],
         };
         return moved(query, piece, inverted, buffers);
     }
-    let gaps = gaps_of(query.edit, start, end);
-    let inserted = copied(query.edit, query.target, start, end);
+    let gaps = gaps_of(query.edit, range);
+    let inserted = copied(query.edit, query.target, range);
     let spelled = Spelled {
         from: gaps.from,
         to: gaps.to,
@@ -135,7 +137,7 @@ pub fn spell(query: &Query, piece: Piece, buffers: &mut Buffers) -> Outcome
     if !edits::reads_alternative(query.edit) {
         return spell_from_target(query, piece, buffers);
     }
-    let gaps = gaps_of(query.edit, query.start, query.end);
+    let gaps = gaps_of(query.edit, query.range);
     let spelled = Spelled {
         from: gaps.from,
         to: gaps.to,

@@ -25,14 +25,7 @@ fn answer_passed(query: &Query, buffers: &mut Buffers) -> Outcome
     if let Some(class) = shortcuts::way_of(query) {
         return shortcuts::answer_in_place(class, query, buffers);
     }
-    let piece = pieces::piece_for(
-        query.kind,
-        query.exons,
-        query.cds_start,
-        query.cds_end,
-        query.start,
-        query.end,
-    )?;
+    let piece = pieces::piece_for(query.kind, query.exons, query.cds, query.range)?;
     spelling::spell(query, piece, buffers)
 }
 
@@ -41,17 +34,17 @@ fn answer_passed(query: &Query, buffers: &mut Buffers) -> Outcome
 pub(crate) fn normalize_range(query: &Query, buffers: &mut Buffers) -> Outcome
     requires { InTarget query.now }
     ensures met { MetIn
-        (range_verdict query.now.target.now query.now.kind query.now.exons.now query.now.cds_start query.now.cds_end query.now.start.0 query.now.end.0
+        (range_verdict query.now.target.now query.now.kind query.now.exons.now query.now.cds.start query.now.cds.end query.now.range.start.0 query.now.range.end.0
         query.now.edit query.now.alternative.now query.now.direction (length buffers.old.reference.now) (length buffers.old.alternative.now))
         result buffers.old buffers.new }
     ensures same_buffers { SameBuffers buffers.old buffers.new }
 {
     refuse_if(
-        edits::bad_insertion(query.edit, query.start, query.end, query.alternative),
+        edits::bad_insertion(query.edit, query.range, query.alternative),
         Refusal::BadInsertion,
     )?;
     refuse_if(
-        alleles_read::too_long(query.edit, query.start, query.end, query.alternative),
+        alleles_read::too_long(query.edit, query.range, query.alternative),
         Refusal::TooLong,
     )?;
     refuse_if(
@@ -63,13 +56,7 @@ pub(crate) fn normalize_range(query: &Query, buffers: &mut Buffers) -> Outcome
         Refusal::NoRoom,
     )?;
     refuse_if(
-        tables::bad_tables(
-            query.kind,
-            query.exons,
-            query.cds_start,
-            query.cds_end,
-            query.target.len(),
-        ),
+        tables::bad_tables(query.kind, query.exons, query.cds, query.target.len()),
         Refusal::BadTables,
     )?;
     answer_passed(query, buffers)

@@ -5,21 +5,22 @@
 mod records;
 mod replays;
 
-ghost use Rattle.std.specs.Prelude.{◌≡◌, ◌≤◌, length};
+ghost use Rattle.std.specs.Prelude.{◌≤◌, length};
 
 use crate::replays::Compared;
-use asking::reading;
+use asking::{reading, text, values};
+use definition::Class;
 use std::io::Read;
 use std::{fs, io};
 
-// The names of the classes, by number from 1.
-const CLASSES: [&str; 6] = [
-    "insertion",
-    "duplication",
-    "deletion",
-    "replacement",
-    "inversion",
-    "unchanged",
+// The classes, by number from 1.
+const CLASSES: [Class; 6] = [
+    Class::Insertion,
+    Class::Duplication,
+    Class::Deletion,
+    Class::Replacement,
+    Class::Inversion,
+    Class::Unchanged,
 ];
 
 // A record that was replayed: how its answer compares with the stored one, and the place behind it.
@@ -67,7 +68,7 @@ impl Totals {
         )?;
         for (class, count) in CLASSES.iter().zip(&self.classes[1..]) {
             if *count > 0 {
-                println!(rt; "{class}: {count}")?;
+                println!(rt; "{}: {count}", values::class_name(*class))?;
             }
         }
         for (refusal, count) in self.refusals.iter().enumerate() {
@@ -96,7 +97,7 @@ fn replay(rt: &impl Print, file: &[u8], at: usize, number: u32) -> io::Result<Op
     let Some(stored) = records::stored_at(file, request.to) else {
         return Ok(None);
     };
-    let compared = replays::replayed(file, request, stored);
+    let compared = replays::replayed(&request, &stored);
     if !compared.agrees() {
         println!(rt; "record {number} differs:{compared}")?;
     }
@@ -150,18 +151,11 @@ fn replay_from(rt: &impl Print, file: &mut impl Read, space: &mut [u8]) -> io::R
     replay_file(rt, &space[..size])
 }
 
-// Room for a file, with one byte more than it may have, so that a longer one shows. It is a function of its own, since a goal in sight of so many
-// bytes is past the check's stack.
-fn room() -> [u8; 524289]
-    ensures { 524289 ≡ length result }
-{
-    [0; 524289]
-}
-
+// There is room for one byte more than a file may have, so that a longer one shows.
 fn main(rt: HostRuntime) -> io::Result<()> {
     match fs::open(&rt, "answers") {
         Ok(mut file) => {
-            let mut space = room();
+            let mut space = text::room::<524289>();
             replay_from(&rt, &mut file, &mut space)
         }
         Err(error) => {

@@ -1,19 +1,15 @@
-// The records of stored answers: where each part of a record lies among the file's bytes. Every length that the file gives is tested before it
-// ends a part.
+// The records of stored answers: the parts of a record, which lie among the file's bytes, and its numbers. Every length that the file gives is
+// tested before it ends a part.
 ghost use Rattle.std.specs.Prelude.{◌≡◌, ◌≤◌, length, IfSome};
+ghost use Rattle.std.specs.Option.{option_map};
 ghost use Rattle.recorded.specs.Format.{stored_number, signed_at, signed_long_at, part_at, numbers_at, request_at, stored_at};
+ghost use Rattle.recorded.specs.Replay.{part_read, request_read, stored_read};
 
+use asking::text;
 use tables::little_endian::number_at;
 
 // The most bytes that a file may have.
 pub const MOST: usize = 524288;
-
-// The bytes of a file from one place up to another.
-#[derive(Clone, Copy)]
-pub struct Part {
-    pub from: usize,
-    pub to: usize,
-}
 
 // The numbers of a request.
 #[derive(Clone, Copy)]
@@ -30,36 +26,33 @@ pub struct Numbers {
 
 // The request of a record, and the place behind it.
 #[derive(Clone, Copy)]
-pub struct Request {
-    pub target: Part,
-    pub exons: Part,
-    pub alternative: Part,
+pub struct Request<'a> {
+    pub target: &'a [u8],
+    pub exons: &'a [u8],
+    pub alternative: &'a [u8],
     pub numbers: Numbers,
     pub to: usize,
 }
 
 // The answer of a record, and the place behind it.
 #[derive(Clone, Copy)]
-pub struct Stored {
+pub struct Stored<'a> {
     pub refusal: u32,
     pub class: u32,
     pub start: u32,
     pub end: u32,
     pub probes: u32,
-    pub reference: Part,
-    pub alternative: Part,
+    pub reference: &'a [u8],
+    pub alternative: &'a [u8],
     pub to: usize,
 }
 
-// The number at a place; 0 where the file ends before it does.
+// The number at a place; 0 where the file ends before it does, by the definition `stored_number`.
 #[tactic(auto, unfolding(crate::specs::Format::stored_number))]
 pub fn number(file: &[u8], at: usize) -> u32
     ensures { result ≡ stored_number file.now at }
 {
-    if file.len() < 4 {
-        return 0;
-    }
-    if file.len() - 4 < at {
+    if file.len() < at.saturating_add(4) {
         return 0;
     }
     number_at(file, at)
@@ -83,12 +76,12 @@ fn signed_long_at(file: &[u8], at: usize) -> i64
     bits.cast_signed()
 }
 
-// The part whose length stands at a place, where the file has the whole of it.
+// The part whose length stands at a place, where the file has the whole of it, and the place behind it.
 #[tactic(auto, unfolding(crate::specs::Format::part_at, crate::specs::Format::stored_number))]
-fn part_at(file: &[u8], at: usize) -> Option<Part>
+fn part_at(file: &[u8], at: usize) -> Option<(&[u8], usize)>
     requires { length file.now ≤ 524288 }
-    ensures value { result ≡ part_at file.now at }
-    ensures to_in_bounds { IfSome result (λ part. part.to ≤ length file.now) }
+    ensures value { option_map part_read result ≡ part_at file.now at }
+    ensures to_in_bounds { IfSome result (λ part. part.1 ≤ length file.now) }
 {
     if file.len() < at {
         return None;
@@ -98,7 +91,7 @@ fn part_at(file: &[u8], at: usize) -> Option<Part>
     if file.len() < to {
         return None;
     }
-    Some(Part { from, to })
+    Some((text::part(file, from, to), to))
 }
 
 // The numbers of a request, which stand behind its target, its exon table and its alternative.
@@ -121,32 +114,32 @@ fn numbers_at(file: &[u8], target_to: usize, exons_to: usize, alternative_to: us
 
 // The request at a place of a file: none where the file ends within it.
 #[tactic(auto, unfolding(crate::specs::Format::request_at))]
-pub fn request_at(file: &[u8], at: usize) -> Option<Request>
+pub fn request_at(file: &[u8], at: usize) -> Option<Request<'_>>
     requires { length file.now ≤ 524288 }
-    ensures value { result ≡ request_at file.now at }
+    ensures value { option_map request_read result ≡ request_at file.now at }
     ensures to_bound { IfSome result (λ request. request.to ≤ 524296) }
 {
-    let target = part_at(file, at)?;
-    let exons = part_at(file, target.to + 4)?;
-    let alternative = part_at(file, exons.to + 28)?;
+    let (target, target_to) = part_at(file, at)?;
+    let (exons, exons_to) = part_at(file, target_to + 4)?;
+    let (alternative, alternative_to) = part_at(file, exons_to + 28)?;
     Some(Request {
         target,
         exons,
         alternative,
-        numbers: numbers_at(file, target.to, exons.to, alternative.to),
-        to: alternative.to + 8,
+        numbers: numbers_at(file, target_to, exons_to, alternative_to),
+        to: alternative_to + 8,
     })
 }
 
 // The stored answer at a place of a file: none where the file ends within it.
 #[tactic(auto, unfolding(crate::specs::Format::stored_at))]
-pub fn stored_at(file: &[u8], at: usize) -> Option<Stored>
+pub fn stored_at(file: &[u8], at: usize) -> Option<Stored<'_>>
     requires { (length file.now ≤ 524288) × (at ≤ 524296) }
-    ensures value { result ≡ stored_at file.now at }
+    ensures value { option_map stored_read result ≡ stored_at file.now at }
     ensures to_bound { IfSome result (λ stored. stored.to ≤ 524288) }
 {
-    let reference = part_at(file, at + 20)?;
-    let alternative = part_at(file, reference.to)?;
+    let (reference, reference_to) = part_at(file, at + 20)?;
+    let (alternative, to) = part_at(file, reference_to)?;
     Some(Stored {
         refusal: number(file, at),
         class: number(file, at + 4),
@@ -155,6 +148,6 @@ pub fn stored_at(file: &[u8], at: usize) -> Option<Stored>
         probes: number(file, at + 16),
         reference,
         alternative,
-        to: alternative.to,
+        to,
     })
 }

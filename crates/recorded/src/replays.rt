@@ -2,10 +2,9 @@
 ghost use Rattle.std.specs.Prelude.{◌≡◌, ◌<◌, length, get_or};
 ghost use Rattle.definition.specs.Limits.{answer_room};
 ghost use Rattle.definition.specs.Reply.{written};
-ghost use Rattle.recorded.specs.Replay.{filled, part_in, reply_to, holds_allele, reply_of, compared_with};
+ghost use Rattle.recorded.specs.Replay.{filled, request_read, stored_read, reply_to, holds_allele, reply_of, compared_with};
 
-use crate::records::{Part, Request, Stored};
-use asking::text;
+use crate::records::{Request, Stored};
 use definition::ANSWER_ROOM;
 use normalizer::replies;
 use normalizer::replies::Answer;
@@ -26,6 +25,7 @@ pub struct Compared {
 }
 
 impl Compared {
+    // Whether nothing differs.
     pub fn agrees(&self) -> bool {
         self.same_verdict && self.same_range && self.same_probes && self.same_alleles
     }
@@ -50,23 +50,13 @@ impl fmt::Display for Compared {
     }
 }
 
-// The bytes of a part: none where it does not lie in the file.
-fn bytes_of<'a>(file: &'a [u8], part: Part) -> &'a [u8]
-    ensures { result.now ≡ part_in file.now part }
-{
-    text::part(file, part.from, part.to)
-}
-
 // The byte at a place of a buffer that holds an allele, and behind it what filled the buffer.
 #[tactic(auto, using(crate::proofs::Held::within_allele, crate::proofs::Held::behind_allele))]
 fn held_at(allele: &[u8], i: usize) -> u8
     requires { i < answer_room }
     ensures { result ≡ get_or (written allele.now filled) i 0 }
 {
-    if i < allele.len() {
-        return allele[i];
-    }
-    FILL
+    allele.get(i).copied().unwrap_or(FILL)
 }
 
 // Whether a buffer holds an allele of so many bases, and behind it what filled the buffer.
@@ -89,52 +79,55 @@ fn holds_allele(buffer: &[u8], size: usize, allele: &[u8]) -> bool
 
 // Compares all that comes back of a request with what is stored.
 fn compare(
-    file: &[u8],
-    stored: Stored,
+    stored: &Stored<'_>,
     reply: Answer,
     reference_out: &[u8; ANSWER_ROOM],
     alternative_out: &[u8; ANSWER_ROOM],
 ) -> Compared
-    ensures { result ≡ compared_with file.now stored
+    ensures { result ≡ compared_with (stored_read stored.now)
         (reply_of reply reference_out.now alternative_out.now) }
 {
-    let reference = bytes_of(file, stored.reference);
-    let alternative = bytes_of(file, stored.alternative);
     Compared {
         refusal: reply.refusal,
         class: reply.class,
         same_verdict: reply.refusal == stored.refusal && reply.class == stored.class,
         same_range: reply.start == stored.start && reply.end == stored.end,
         same_probes: reply.probes == stored.probes,
-        same_alleles: holds_allele(reference_out, reply.reference_len as usize, reference)
-            && holds_allele(alternative_out, reply.alternative_len as usize, alternative),
+        same_alleles: holds_allele(
+            reference_out,
+            reply.reference_len as usize,
+            stored.reference,
+        ) && holds_allele(
+            alternative_out,
+            reply.alternative_len as usize,
+            stored.alternative,
+        ),
     }
 }
 
 // Asks for a record's request and compares all that comes back with what is stored.
-pub fn replayed(file: &[u8], request: Request, stored: Stored) -> Compared
-    ensures { result ≡ compared_with file.now stored (reply_to file.now request) }
+pub fn replayed(request: &Request<'_>, stored: &Stored<'_>) -> Compared
+    ensures { result ≡ compared_with (stored_read stored.now) (reply_to (request_read request.now)) }
 {
     let asked = request.numbers;
     let mut reference_out = [FILL; ANSWER_ROOM];
     let mut alternative_out = [FILL; ANSWER_ROOM];
     let outcome = normalizer::normalize(
-        bytes_of(file, request.target),
+        request.target,
         asked.kind,
-        bytes_of(file, request.exons),
+        request.exons,
         asked.cds_start,
         asked.cds_end,
         asked.start,
         asked.end,
         asked.edit,
-        bytes_of(file, request.alternative),
+        request.alternative,
         asked.direction,
         asked.window,
         &mut reference_out,
         &mut alternative_out,
     );
     compare(
-        file,
         stored,
         replies::in_numbers(outcome),
         &reference_out,

@@ -4,7 +4,8 @@ use Rattle.definition.specs.Limits.{answer_room}
 use Rattle.alleles.specs.Window.{Placed}
 use Rattle.results.specs.declared.classes.Called.{Called}
 
--- each answer buffer holds an allele and one base more
+-- each answer buffer holds an allele and one base more. A clause, and not an invariant of `Buffers`: row 9 tests it of buffers that stand before, and a
+-- second type of them for behind that row would be no plainer
 pub record Room (reference_out alternative_out : List ℕ) : Type 0 where
   pub reference : answer_room ≤ length reference_out
   pub alternative : answer_room ≤ length alternative_out

@@ -10,7 +10,8 @@ use Rattle.results.specs.declared.buffers.Buffers.{Buffers}
 abbrev pub MetIn : Verdict → Result Answered Refusal → Buffers → Buffers → Type 0
 MetIn v r before after = Met v r before.reference.now after.reference.now before.alternative.now after.alternative.now
 
--- they stay the caller's own: what is written through them reaches it
+-- they stay the caller's own: what is written through them reaches it. A clause of each function that is lent them, since an invariant of `Buffers` cannot
+-- speak of two moments
 pub record SameBuffers (before after : Buffers) : Type 0 where
   pub reference : after.reference.ghost_name ≡ before.reference.ghost_name
   pub alternative : after.alternative.ghost_name ≡ before.alternative.ghost_name

@@ -13,6 +13,6 @@ pub record Settled (target : List ℕ) (place reference_size head count : ℕ) :
   pub placed : Placed head count
   pub alternative : count ≤ longest_allele
 
--- the same of the change as it is handed in
+-- the same of the change as it is handed in; why it is a clause and no invariant stands at `Moved`
 abbrev pub IsSettled : Moved → Type 0
 IsSettled change = Settled change.target.now change.place.0 change.reference_size change.alternative.now.head change.alternative.now.count

@@ -4,3 +4,4 @@ pub mod ReverseComplement
 pub mod SameBases
 pub mod BasesUnique
 pub mod ReachLaws
+pub mod ReachUnique

@@ -1,15 +1,19 @@
-// How far two stretches of bases agree, thirty-two bases at a time. Two functions, since the loops run the other way in the second. Both count by hand:
-// a step is a block or a base, and an iterator over the bases behind the blocks would need the count of those beside it, which is no plainer.
-ghost use Rattle.std.specs.Prelude.{◌≡◌, ◌↔◌, IsTrue, length};
+// Whether two stretches of bases are the same, and how far two agree, thirty-two bases at a time: two functions, since the loops run the other way in the
+// second. Both count by hand: a step is a block or a base, and an iterator over the bases behind the blocks would need the count of those beside it, which is no plainer.
+ghost use Rattle.std.specs.Prelude.{◌≡◌};
+ghost use Rattle.definition.specs.Bases.{same_bases};
 ghost use Rattle.definition.specs.Prefix.{lcp, lcs};
 
 const BLOCK: usize = 32;
 
-// Whether two stretches of one length are the same. The loop has no early exit, so that it is compiled to vector instructions.
-fn is_same(a: &[u8], b: &[u8]) -> bool
-    requires { length a.now ≡ length b.now }
-    ensures { IsTrue result ↔ (a.now ≡ b.now) }
+/// Whether two stretches are the same, base for base. The loop has no early exit, so that it is compiled to vector instructions.
+#[tactic(auto, using(crate::proofs::SameBases::not_as_long))]
+pub fn is_same(a: &[u8], b: &[u8]) -> bool
+    ensures { result ≡ same_bases a.now b.now }
 {
+    if a.len() != b.len() {
+        return false;
+    }
     let mut same = true;
     for k in 0..a.len() {
         same &= a[k] == b[k];

@@ -19,7 +19,7 @@ use Rattle.definition.proofs.Places.{to-edge}
 use Rattle.alleles.specs.declared.Allele.{Allele}
 use Rattle.alleles.specs.Held.{held}
 use Rattle.alleles.proofs.Laws.{window-length}
-use Rattle.definition.specs.declared.counts.Stepped.{Stepped}
+use Rattle.shuffle.specs.declared.windows.Stepped.{Stepped}
 use Rattle.shuffle.specs.Windows.{Windowed, Before, room, beside, turned, SteppedOn}
 use Rattle.shuffle.specs.Slides.{Poised, Slid, edge, moved}
 use Rattle.shuffle.proofs.Standing.{extra, added}

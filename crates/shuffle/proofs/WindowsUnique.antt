@@ -8,7 +8,7 @@ use Rattle.alleles.proofs.RotatingUnique.{equal}
 use Rattle.alleles.proofs.Unique.{Alike}
 use Rattle.definition.specs.declared.Direction.{Direction}
 use Rattle.definition.specs.declared.Direction.TheVariants.{Rightward, Leftward}
-use Rattle.definition.specs.declared.counts.Stepped.{Stepped}
+use Rattle.shuffle.specs.declared.windows.Stepped.{Stepped}
 use Rattle.shuffle.specs.Windows.{Windowed, WindowedRight, WindowedLeft, Turned, SteppedOn}
 
 -- of a window stored beside both alleles: the count and what both then hold

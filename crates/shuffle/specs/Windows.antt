@@ -5,7 +5,7 @@ use Rattle.std.proofs.Math.Seq.{slice}
 use Rattle.definition.specs.declared.Direction.{Direction}
 use Rattle.definition.specs.declared.Direction.TheVariants.{Rightward, Leftward}
 use Rattle.definition.specs.Prefix.{lcp, lcs}
-use Rattle.definition.specs.declared.counts.Stepped.{Stepped}
+use Rattle.shuffle.specs.declared.windows.Stepped.{Stepped}
 use Rattle.alleles.specs.declared.Allele.{Allele}
 use Rattle.alleles.specs.Held.{held}
 

@@ -7,7 +7,13 @@ ghost use Rattle.shuffle.specs.Windows.{Before, Taken, WindowMoved, SteppedOn};
 use crate::Alleles;
 use alleles::ends;
 use definition::Direction;
-use definition::counts::Stepped;
+
+/// One window of the move: how many bases it has, and how many the change moved in it.
+#[derive(Clone, Copy)]
+pub struct Stepped {
+    pub size: usize,
+    pub moved: usize,
+}
 
 // The bases beside a change of so many reference bases: as many as a window takes, and none past the edge.
 fn chunk_beside<'a>(

@@ -11,7 +11,7 @@ ghost use Rattle.definition.specs.Piece.{bound_in_target, bounds_in_order, table
 ghost use Rattle.definition.specs.Verdict.{tables_broken};
 
 use crate::exons::Exons;
-use definition::{Bound, Kind};
+use definition::{Bound, Cds, Kind};
 
 // A bound that is given is a number up to the target's size.
 #[tactic(auto, unfolding(definition::specs::Piece::bound_in_target))]
@@ -27,10 +27,10 @@ fn bound_in_target(bound: Bound, size: usize) -> bool
 
 // Two numbers in order. A bound that is absent is in order with any, and one that is negative is refused by itself.
 #[tactic(auto, unfolding(definition::specs::Piece::bounds_in_order))]
-fn bounds_in_order(cds_start: Bound, cds_end: Bound) -> bool
-    ensures { result ≡ bounds_in_order cds_start cds_end }
+fn bounds_in_order(cds: Cds) -> bool
+    ensures { result ≡ bounds_in_order cds.start cds.end }
 {
-    match (cds_start, cds_end) {
+    match (cds.start, cds.end) {
         (Bound::At(s), Bound::At(e)) => s <= e,
         _ => true,
     }
@@ -39,25 +39,25 @@ fn bounds_in_order(cds_start: Bound, cds_end: Bound) -> bool
 /// Whether every table rule holds: 1 to 512 whole pairs of eight bytes, in order, the last end at the target's size, and CDS bounds in it and in
 /// order. The table is any bytes at all.
 #[tactic(auto, using(crate::proofs::Rules::left_over, crate::proofs::Rules::no_pair, crate::proofs::Rules::too_many, crate::proofs::Rules::rules_left))]
-pub fn tables_hold(table: &[u8], cds_start: Bound, cds_end: Bound, size: usize) -> bool
-    ensures { result ≡ tables_hold table.now cds_start cds_end size }
+pub fn tables_hold(table: &[u8], cds: Cds, size: usize) -> bool
+    ensures { result ≡ tables_hold table.now cds.start cds.end size }
 {
     let bytes = table.len();
     bytes % 8 == 0
         && 8 <= bytes
         && bytes <= 4096
         && Exons::of(table).fit(size)
-        && bound_in_target(cds_start, size)
-        && bound_in_target(cds_end, size)
-        && bounds_in_order(cds_start, cds_end)
+        && bound_in_target(cds.start, size)
+        && bound_in_target(cds.end, size)
+        && bounds_in_order(cds)
 }
 
 /// Whether the row of the tables is given: a transcript that does not cross breaks a table rule.
-pub fn bad_tables(kind: Kind, exons: &[u8], cds_start: Bound, cds_end: Bound, size: usize) -> bool
-    ensures { result ≡ tables_broken kind exons.now cds_start cds_end size }
+pub fn bad_tables(kind: Kind, exons: &[u8], cds: Cds, size: usize) -> bool
+    ensures { result ≡ tables_broken kind exons.now cds.start cds.end size }
 {
     match kind {
-        Kind::Transcript => !tables_hold(exons, cds_start, cds_end, size),
+        Kind::Transcript => !tables_hold(exons, cds, size),
         Kind::Open | Kind::Crossing => false,
     }
 }

@@ -1,8 +1,9 @@
 -- By the request that the words make, and by what its target comes to; the letters of that stand at the front of its room.
 use Rattle.std.proofs.Common.{refl, ◌∙◌}
 use Rattle.std.proofs.lemmas.Result.{err_from_is_err_and}
+use Rattle.definition.proofs.Tests.{none-gives}
 use Rattle.asking.specs.Sources.{bytes_of}
-use Rattle.asking.proofs.Came.{none-gives, stops, goes_on, unread, with-letters, broken, no-edit, no-range, with-range}
+use Rattle.asking.proofs.Came.{stops, goes_on, unread, with-letters, broken, no-edit, no-range, with-range}
 use Rattle.asking.proofs.ask.Goals as goal
 
 pub returns-in_err-request : goal.returns-in_err-request

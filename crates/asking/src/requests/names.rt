@@ -20,7 +20,7 @@ pub(crate) enum Name {
     Range,
 }
 
-// Whether a word is a name.
+// Whether a word is a name. Tests and no `match`: that has a case for each letter, and its proof didn't close.
 fn is(word: &[u8], name: &[u8]) -> bool
     ensures { result ≡ same_bases word.now name.now }
 {

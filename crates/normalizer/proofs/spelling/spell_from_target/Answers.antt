@@ -12,15 +12,15 @@ unfolding spelled
 moved-requires-clause-asked c =
     let a = c.args.query.now in
     let v = c.revcomp-size in
-    let back = inverted-back _ _ _ v.result v.ensures.count v.ensures.laid ∙ ap reverse_complement (lent-part a.start.0 a.end.0 a.target.now) in
-    rw back (asks c.args.piece a.target.now a.start.0 a.end.0 a.window c.requires.ranged Invert [] (reads_nothing Invert a.start.0 a.end.0 refl))
+    let back = inverted-back _ _ _ v.result v.ensures.count v.ensures.laid ∙ ap reverse_complement (lent-part a.range.start.0 a.range.end.0 a.target.now) in
+    rw back (asks c.args.piece a.target.now a.range.start.0 a.range.end.0 a.window c.requires.ranged Invert [] (reads_nothing Invert a.range.start.0 a.range.end.0 refl))
 
 pub returns-in-Invert-clause-met : goal.returns-in-Invert-clause-met
 unfolding spelled
 returns-in-Invert-clause-met c =
     let a = c.args.query.now in
     let v = c.revcomp-size in
-    let back = inverted-back _ _ _ v.result v.ensures.count v.ensures.laid ∙ ap reverse_complement (lent-part a.start.0 a.end.0 a.target.now) in
+    let back = inverted-back _ _ _ v.result v.ensures.count v.ensures.laid ∙ ap reverse_complement (lent-part a.range.start.0 a.range.end.0 a.target.now) in
     rw (c.in-Invert.is, ← back) c.moved.ensures.met
 
 pub moved-requires-2 : goal.moved-requires-2
@@ -28,9 +28,9 @@ moved-requires-2 c =
     let a = c.args.query.now in
     let r = c.requires.ranged in
     let spelt = ap₂ between c.gaps_of-gaps.ensures c.copied-inserted.ensures
-    ∙ copies a.target.now a.start a.end a.edit c.requires.reads_none c.in_default.not-Invert in
+    ∙ copies a.target.now a.range.start a.range.end a.edit c.requires.reads_none c.in_default.not-Invert in
     record {
-      asked = rw spelt (asks c.args.piece a.target.now a.start.0 a.end.0 a.window r a.edit [] (reads_nothing a.edit a.start.0 a.end.0 c.requires.reads_none));
+      asked = rw spelt (asks c.args.piece a.target.now a.range.start.0 a.range.end.0 a.window r a.edit [] (reads_nothing a.edit a.range.start.0 a.range.end.0 c.requires.reads_none));
       in_bounds = (omega (arith, r.ordered, r.in_target), r.short);
       room = c.requires.room;
     }
@@ -39,5 +39,5 @@ pub returns-clause-met : goal.returns-clause-met
 returns-clause-met c =
     let a = c.args.query.now in
     let spelt = ap₂ between c.gaps_of-gaps.ensures c.copied-inserted.ensures
-    ∙ copies a.target.now a.start a.end a.edit c.requires.reads_none c.in_default.not-Invert in
+    ∙ copies a.target.now a.range.start a.range.end a.edit c.requires.reads_none c.in_default.not-Invert in
     rw spelt at c.moved-2.ensures.met

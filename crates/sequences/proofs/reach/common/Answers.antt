@@ -1,7 +1,8 @@
 -- Blocks and single bases that agree lengthen the shared prefix; a pair that differs, or an end, is where it stops.
-use Rattle.std.proofs.Common.{◌≡◌, suc, ◌+◌, ◌-◌, ◌≤◌, take, drop, arith}
+use Rattle.std.proofs.Common.{◌≡◌, suc, ◌+◌, ◌-◌, ◌≤◌, take, drop, arith, sym, ◌∙◌}
 use Rattle.definition.specs.Prefix.{lcp}
 use Rattle.definition.proofs.Prefixes.{lcp-le-left, lcp-le-right}
+use Rattle.definition.proofs.Tests.{same-equal}
 use Rattle.definition.proofs.Steps.{lcp-next, lcp-stop}
 use Rattle.sequences.proofs.ReachLaws.{further}
 use Rattle.sequences.proofs.reach.common.Goals as goal
@@ -12,7 +13,8 @@ loop-n-preserved c =
     let a = c.args.a.now in
     let b = c.args.b.now in
     let size : l.n + 32 - l.n ≡ 32 = omega arith in
-    let same : take 32 (drop l.n a) ≡ take 32 (drop l.n b) = rw size at (c.is_same.ensures.0 c.if-is_same.true) in
+    let same : take 32 (drop l.n a) ≡ take 32 (drop l.n b) =
+    same-equal _ _ (rw size at (sym c.is_same.ensures ∙ c.if-is_same.true)) in
     record {
       in_range = omega arith;
       in_a = l.invariant.in_a;

@@ -1,6 +1,7 @@
 -- Blocks and single bases that agree lengthen the shared suffix; a pair that differs, or an end, is where it stops.
-use Rattle.std.proofs.Common.{◌≡◌, ◌+◌, ◌-◌, length, take, drop, arith}
+use Rattle.std.proofs.Common.{◌≡◌, ◌+◌, ◌-◌, length, take, drop, arith, sym, ◌∙◌}
 use Rattle.definition.proofs.Prefixes.{lcs-le-left, lcs-le-right}
+use Rattle.definition.proofs.Tests.{same-equal}
 use Rattle.sequences.proofs.ReachLaws.{further_back, end-grows, end-stops}
 use Rattle.sequences.proofs.reach.common_end.Goals as goal
 
@@ -13,7 +14,8 @@ loop-n-preserved c =
     let y : length b - l.n - (length b - l.n - 32) ≡ 32 = omega arith in
     let u : length a - l.n - 32 ≡ length a - (l.n + 32) = omega arith in
     let v : length b - l.n - 32 ≡ length b - (l.n + 32) = omega arith in
-    let same : take 32 (drop (length a - (l.n + 32)) a) ≡ take 32 (drop (length b - (l.n + 32)) b) = rw (x, y, u, v) at (c.is_same.ensures.0 c.if-is_same.true) in
+    let same : take 32 (drop (length a - (l.n + 32)) a) ≡ take 32 (drop (length b - (l.n + 32)) b) =
+    same-equal _ _ (rw (x, y, u, v) at (sym c.is_same.ensures ∙ c.if-is_same.true)) in
     record {
       in_range = omega arith;
       in_a = l.invariant.in_a;

@@ -1,6 +1,7 @@
--- The bytes passed are the same exactly if no pair differed.
-use Rattle.std.proofs.Common.{◌≡◌, ◌↔◌, ◌<◌, IsTrue, get_or, ℕ}
+-- The pairs so far and the rests decide together.
+use Rattle.std.proofs.Common.{◌≡◌, ◌&&◌, drop}
+use Rattle.definition.specs.Bases.{same_bases}
 use Rattle.sequences.proofs.reach.is_same.Given as goal
 
 abbrev pub invariant-loop-k : goal.invariant-loop-k
-invariant-loop-k l = IsTrue l.same ↔ ((j : ℕ) → j < l.k → get_or l.a j 0 ≡ get_or l.b j 0)
+invariant-loop-k l = (l.same && same_bases (drop l.k l.a) (drop l.k l.b)) ≡ same_bases l.a l.b
