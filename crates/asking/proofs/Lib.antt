@@ -36,6 +36,7 @@ pub mod RunsUnique
 pub mod Fronts
 pub mod TargetsUnique
 -- What the proofs share. Assumes nothing.
+pub mod Meanings
 pub mod Pages
 pub mod TerminalUnique
 -- What the proofs share. Assumes nothing.

@@ -11,6 +11,11 @@ unfoldable pub meaning : {A : Type 0} → List (String × A) → List ℕ → Op
 meaning [] word = None
 meaning (row ∷ rows) word = cond (same_bases word (ascii row.0)) (Some row.1) (meaning rows word)
 
+-- the same of a table in the code, whose words come as bytes
+unfoldable pub meant : {A : Type 0} → List (List ℕ × A) → List ℕ → Option A
+meant [] word = None
+meant (row ∷ rows) word = cond (same_bases word row.0) (Some row.1) (meant rows word)
+
 -- the options: four with a word that is read later, six with a number, two with two numbers
 abbrev pub options : List (String × Name)
 options =

@@ -5,11 +5,19 @@
 
 mod answers;
 
+use crate::answers::Buffers;
 use asking::problems::Unread;
 use asking::terminal::Page;
 use asking::{decimals, problems, reading, runs};
 use definition::ANSWER_ROOM;
 use std::{fmt, io};
+
+// The bytes of each of a row's two answer buffers.
+#[derive(Clone, Copy)]
+struct Rooms {
+    reference: usize,
+    alternative: usize,
+}
 
 // How many rows agree, and how many there are.
 #[derive(Clone, Copy)]
@@ -33,33 +41,39 @@ impl fmt::Display for Run {
 // What the words of a row reach, on one line.
 fn put_reached(answer: &mut Page, words: &[u8], reference: &mut [u8], alternative: &mut [u8]) {
     match asking::ask(words, Err(Unread::Unreadable), reference, alternative) {
-        Ok(outcome) => answers::put_outcome(answer, outcome, reference, alternative),
+        Ok(outcome) => {
+            let buffers = Buffers {
+                reference,
+                alternative,
+            };
+            buffers.put_outcome(answer, outcome);
+        }
         Err(problem) => problems::put_problem(answer, words, problem),
     }
 }
 
 // The same with answer buffers of two sizes. A size above 1,025 has no answer.
-fn put_reached_in(answer: &mut Page, words: &[u8], reference_room: usize, alternative_room: usize) {
+fn put_reached_in(answer: &mut Page, words: &[u8], rooms: Rooms) {
     let mut reference = [0u8; ANSWER_ROOM];
     let mut alternative = [0u8; ANSWER_ROOM];
-    if reference_room <= ANSWER_ROOM && alternative_room <= ANSWER_ROOM {
+    if rooms.reference <= ANSWER_ROOM && rooms.alternative <= ANSWER_ROOM {
         put_reached(
             answer,
             words,
-            &mut reference[..reference_room],
-            &mut alternative[..alternative_room],
+            &mut reference[..rooms.reference],
+            &mut alternative[..rooms.alternative],
         );
     }
 }
 
 // The answer to a row's words, which are asked of CAAATGGTACCA where they name no other target. There is room for the longest target.
-fn put_answer(answer: &mut Page, asked: &[u8], reference_room: usize, alternative_room: usize) {
+fn put_answer(answer: &mut Page, asked: &[u8], rooms: Rooms) {
     let mut space = [0u8; 66560];
     let mut words = Page::new(&mut space);
     runs::expand(b"--target CAAATGGTACCA ", 0, &mut words);
     runs::expand(asked, 0, &mut words);
     words.put_byte(0);
-    put_reached_in(answer, words.text(), reference_room, alternative_room);
+    put_reached_in(answer, words.text(), rooms);
 }
 
 // Whether an answer is what a row expects.
@@ -76,16 +90,10 @@ fn room_in(field: &[u8]) -> usize {
 }
 
 // Whether the answer to a row's words is the one expected; it is said where it is not.
-fn answers_as(
-    rt: &impl Print,
-    asked: &[u8],
-    expected: &[u8],
-    reference_room: usize,
-    alternative_room: usize,
-) -> io::Result<bool> {
+fn answers_as(rt: &impl Print, asked: &[u8], expected: &[u8], rooms: Rooms) -> io::Result<bool> {
     let mut space = [0u8; 4096];
     let mut answer = Page::new(&mut space);
-    put_answer(&mut answer, asked, reference_room, alternative_room);
+    put_answer(&mut answer, asked, rooms);
     if agrees(answer.text(), expected) {
         return Ok(true);
     }
@@ -111,10 +119,12 @@ fn run_row(rt: &impl Print, row: &[u8]) -> io::Result<bool> {
     let asked = fields.next().unwrap_or(b"");
     let expected = fields.next().unwrap_or(b"");
     let shows = fields.next().unwrap_or(b"");
-    let reference_room = room_in(fields.next().unwrap_or(b""));
-    let alternative_room = room_in(fields.next().unwrap_or(b""));
+    let rooms = Rooms {
+        reference: room_in(fields.next().unwrap_or(b"")),
+        alternative: room_in(fields.next().unwrap_or(b"")),
+    };
     say_row(rt, asked, expected, shows)?;
-    answers_as(rt, asked, expected, reference_room, alternative_room)
+    answers_as(rt, asked, expected, rooms)
 }
 
 // Runs the rows, one a line: a line that is empty, or begins with #, is none.

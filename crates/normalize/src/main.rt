@@ -65,29 +65,39 @@ fn read_file<'a>(rt: &impl Files, path: &[u8], bytes: &'a mut [u8]) -> Result<&'
     }
 }
 
-// An answer on five lines.
-fn put_answer(page: &mut Page, answer: Answered, reference: &[u8], alternative: &[u8]) {
-    page.put(b"class        ");
-    page.put_number(answer.class.number() as usize);
-    page.put(b" ");
-    values::put_class(page, answer.class);
-    page.put(b"\nrange        ");
-    values::put_range(page, answer.start.0, answer.end.0);
-    page.put(b"\nreference    ");
-    values::put_allele(page, reference, answer.reference_size);
-    page.put(b"\nalternative  ");
-    values::put_allele(page, alternative, answer.alternative_size);
-    page.put(b"\nprobes       ");
-    page.put_number(answer.probes);
+// The two buffers of a request, as it left them.
+#[derive(Clone, Copy)]
+struct Buffers<'a> {
+    reference: &'a [u8],
+    alternative: &'a [u8],
 }
 
-fn put_outcome(page: &mut Page, outcome: Outcome, reference: &[u8], alternative: &[u8]) {
-    match outcome {
-        Ok(answer) => put_answer(page, answer, reference, alternative),
-        Err(refusal) => {
-            refusals::put_refusal(page, refusal);
-            page.put(b": ");
-            page.put(advice::advice(refusal).as_bytes());
+impl Buffers<'_> {
+    // An answer on five lines.
+    fn put_answer(self, page: &mut Page, answer: Answered) {
+        page.put(b"class        ");
+        page.put_number(answer.class.number() as usize);
+        page.put(b" ");
+        values::put_class(page, answer.class);
+        page.put(b"\nrange        ");
+        values::put_range(page, answer.start.0, answer.end.0);
+        page.put(b"\nreference    ");
+        values::put_allele(page, self.reference, answer.reference_size);
+        page.put(b"\nalternative  ");
+        values::put_allele(page, self.alternative, answer.alternative_size);
+        page.put(b"\nprobes       ");
+        page.put_number(answer.probes);
+    }
+
+    // An answer, or a refusal on one line with what to change.
+    fn put_outcome(self, page: &mut Page, outcome: Outcome) {
+        match outcome {
+            Ok(answer) => self.put_answer(page, answer),
+            Err(refusal) => {
+                refusals::put_refusal(page, refusal);
+                page.put(b": ");
+                page.put(advice::advice(refusal).as_bytes());
+            }
         }
     }
 }
@@ -107,7 +117,13 @@ fn put_reached(page: &mut Page, text: &[u8], file: Result<&[u8], Unread>) {
     let mut reference = [0u8; ANSWER_ROOM];
     let mut alternative = [0u8; ANSWER_ROOM];
     match asking::ask(text, file, &mut reference, &mut alternative) {
-        Ok(outcome) => put_outcome(page, outcome, &reference, &alternative),
+        Ok(outcome) => {
+            let buffers = Buffers {
+                reference: &reference,
+                alternative: &alternative,
+            };
+            buffers.put_outcome(page, outcome);
+        }
         Err(problem) => put_problem(page, text, problem),
     }
 }

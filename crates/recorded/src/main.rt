@@ -5,15 +5,13 @@
 mod records;
 mod replays;
 
-ghost use Rattle.std.specs.Prelude.{◌≤◌, length};
-
 use crate::replays::Compared;
 use asking::{reading, text, values};
 use definition::Class;
 use std::io::Read;
 use std::{fs, io};
 
-// The classes, by number from 1.
+// The classes, by number from 1, as the definition `compared_with` gives them.
 const CLASSES: [Class; 6] = [
     Class::Insertion,
     Class::Duplication,
@@ -88,9 +86,7 @@ fn raise(counts: &mut [u32], number: u32) {
 }
 
 // The record at a place of the file, replayed; its line where it differs. None where the file ends within it.
-fn replay(rt: &impl Print, file: &[u8], at: usize, number: u32) -> io::Result<Option<Replayed>>
-    requires { length file.now ≤ 524288 }
-{
+fn replay(rt: &impl Print, file: &[u8], at: usize, number: u32) -> io::Result<Option<Replayed>> {
     let Some(request) = records::request_at(file, at) else {
         return Ok(None);
     };
@@ -108,9 +104,7 @@ fn replay(rt: &impl Print, file: &[u8], at: usize, number: u32) -> io::Result<Op
 }
 
 // All records of a file, replayed; fewer where the file is cut.
-fn replay_all(rt: &impl Print, file: &[u8]) -> io::Result<Totals>
-    requires { length file.now ≤ 524288 }
-{
+fn replay_all(rt: &impl Print, file: &[u8]) -> io::Result<Totals> {
     let count = records::number(file, 0);
     let mut totals = Totals::new();
     let mut at = 4;

@@ -1,6 +1,7 @@
 // The records of stored answers: the parts of a record, which lie among the file's bytes, and its numbers. Every length that the file gives is
-// tested before it ends a part.
-ghost use Rattle.std.specs.Prelude.{◌≡◌, ◌≤◌, length, IfSome};
+// tested before it ends a part. Each function takes the whole file and a place in it: `part_at`, `request_at` and `stored_at` of the format count
+// the place behind a part from the file's start.
+ghost use Rattle.std.specs.Prelude.{◌≡◌, ◌≤◌, ◌<◌, ◌+◌, ◌^◌, length, IfSome};
 ghost use Rattle.std.specs.Option.{option_map};
 ghost use Rattle.recorded.specs.Format.{stored_number, signed_at, signed_long_at, part_at, numbers_at, request_at, stored_at};
 ghost use Rattle.recorded.specs.Replay.{part_read, request_read, stored_read};
@@ -34,7 +35,8 @@ pub struct Request<'a> {
     pub to: usize,
 }
 
-// The answer of a record, and the place behind it.
+// The answer of a record, and the place behind it. Its refusal and class stay numbers, 0 for none, as `stored_read` hands them to `Kept`: a file
+// may hold any number there.
 #[derive(Clone, Copy)]
 pub struct Stored<'a> {
     pub refusal: u32,
@@ -66,10 +68,10 @@ fn signed_at(file: &[u8], at: usize) -> i32
     number(file, at).cast_signed()
 }
 
-// The number that eight bytes spell, with a sign.
+// The number that eight bytes spell, with a sign: the sum of both halves, as the definition `signed_long_at` has it.
 #[tactic(auto, unfolding(crate::specs::Format::signed_long_at))]
 fn signed_long_at(file: &[u8], at: usize) -> i64
-    requires { at ≤ 524296 }
+    requires { at ≤ length file.now + 8 }
     ensures { result ≡ signed_long_at file.now at }
 {
     let bits = number(file, at) as u64 + number(file, at + 4) as u64 * 4294967296;
@@ -79,7 +81,6 @@ fn signed_long_at(file: &[u8], at: usize) -> i64
 // The part whose length stands at a place, where the file has the whole of it, and the place behind it.
 #[tactic(auto, unfolding(crate::specs::Format::part_at, crate::specs::Format::stored_number))]
 fn part_at(file: &[u8], at: usize) -> Option<(&[u8], usize)>
-    requires { length file.now ≤ 524288 }
     ensures value { option_map part_read result ≡ part_at file.now at }
     ensures to_in_bounds { IfSome result (λ part. part.1 ≤ length file.now) }
 {
@@ -96,7 +97,7 @@ fn part_at(file: &[u8], at: usize) -> Option<(&[u8], usize)>
 
 // The numbers of a request, which stand behind its target, its exon table and its alternative.
 fn numbers_at(file: &[u8], target_to: usize, exons_to: usize, alternative_to: usize) -> Numbers
-    requires { (exons_to ≤ 524288) × (alternative_to ≤ 524288) }
+    requires { (exons_to ≤ length file.now) × (alternative_to ≤ length file.now) }
     ensures { result ≡ numbers_at file.now target_to exons_to alternative_to }
 {
     let at = exons_to;
@@ -115,9 +116,8 @@ fn numbers_at(file: &[u8], target_to: usize, exons_to: usize, alternative_to: us
 // The request at a place of a file: none where the file ends within it.
 #[tactic(auto, unfolding(crate::specs::Format::request_at))]
 pub fn request_at(file: &[u8], at: usize) -> Option<Request<'_>>
-    requires { length file.now ≤ 524288 }
     ensures value { option_map request_read result ≡ request_at file.now at }
-    ensures to_bound { IfSome result (λ request. request.to ≤ 524296) }
+    ensures to_bound { IfSome result (λ request. request.to ≤ length file.now + 8) }
 {
     let (target, target_to) = part_at(file, at)?;
     let (exons, exons_to) = part_at(file, target_to + 4)?;
@@ -134,9 +134,9 @@ pub fn request_at(file: &[u8], at: usize) -> Option<Request<'_>>
 // The stored answer at a place of a file: none where the file ends within it.
 #[tactic(auto, unfolding(crate::specs::Format::stored_at))]
 pub fn stored_at(file: &[u8], at: usize) -> Option<Stored<'_>>
-    requires { (length file.now ≤ 524288) × (at ≤ 524296) }
+    requires { at < 2 ^ 63 + 8 }
     ensures value { option_map stored_read result ≡ stored_at file.now at }
-    ensures to_bound { IfSome result (λ stored. stored.to ≤ 524288) }
+    ensures to_bound { IfSome result (λ stored. stored.to ≤ length file.now) }
 {
     let (reference, reference_to) = part_at(file, at + 20)?;
     let (alternative, to) = part_at(file, reference_to)?;

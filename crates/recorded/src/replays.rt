@@ -1,5 +1,5 @@
 // What `normalize` answers to the request of a stored record, and where that differs from what is stored.
-ghost use Rattle.std.specs.Prelude.{◌≡◌, ◌<◌, length, get_or};
+ghost use Rattle.std.specs.Prelude.{◌≡◌, ◌≤◌, length};
 ghost use Rattle.definition.specs.Limits.{answer_room};
 ghost use Rattle.definition.specs.Reply.{written};
 ghost use Rattle.recorded.specs.Replay.{filled, request_read, stored_read, reply_to, holds_allele, reply_of, compared_with};
@@ -13,7 +13,8 @@ use std::fmt;
 // What fills both buffers before a request: no base.
 const FILL: u8 = b'.';
 
-// The refusal and the class that were answered, and whether both, the range, the probes and both alleles are the stored ones.
+// The refusal and the class that were answered, and whether both, the range, the probes and both alleles are the stored ones. The refusal
+// and the class stay numbers, 0 for none, as the definition `compared_with` has them.
 #[derive(Clone, Copy)]
 pub struct Compared {
     pub refusal: u32,
@@ -50,13 +51,15 @@ impl fmt::Display for Compared {
     }
 }
 
-// The byte at a place of a buffer that holds an allele, and behind it what filled the buffer.
-#[tactic(auto, using(crate::proofs::Held::within_allele, crate::proofs::Held::behind_allele))]
-fn held_at(allele: &[u8], i: usize) -> u8
-    requires { i < answer_room }
-    ensures { result ≡ get_or (written allele.now filled) i 0 }
+// A buffer that holds an allele, and behind it what filled the buffer.
+#[tactic(auto, unfolding(definition::specs::Reply::written, crate::specs::Replay::filled))]
+fn holding(allele: &[u8]) -> [u8; ANSWER_ROOM]
+    requires { length allele.now ≤ answer_room }
+    ensures { result ≡ written allele.now filled }
 {
-    allele.get(i).copied().unwrap_or(FILL)
+    let mut buffer = [FILL; ANSWER_ROOM];
+    buffer[..allele.len()].copy_from_slice(allele);
+    buffer
 }
 
 // Whether a buffer holds an allele of so many bases, and behind it what filled the buffer.
@@ -70,11 +73,7 @@ fn holds_allele(buffer: &[u8], size: usize, allele: &[u8]) -> bool
     if ANSWER_ROOM < size {
         return false;
     }
-    let mut same = true;
-    for i in 0..ANSWER_ROOM {
-        same &= buffer[i] == held_at(allele, i);
-    }
-    same
+    buffer == holding(allele).as_slice()
 }
 
 // Compares all that comes back of a request with what is stored.

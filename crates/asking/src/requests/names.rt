@@ -1,7 +1,7 @@
 // The words of the command line: the options, and the codes of kinds, edits and directions, by their words.
-ghost use Rattle.std.specs.Prelude.{◌≡◌};
+ghost use Rattle.std.specs.Prelude.{◌≡◌, map};
 ghost use Rattle.definition.specs.Bases.{same_bases};
-ghost use Rattle.asking.specs.Names.{meaning, options, kinds, edits, directions};
+ghost use Rattle.asking.specs.Names.{meaning, meant, options, kinds, edits, directions};
 
 // The options.
 #[derive(Clone, Copy)]
@@ -20,93 +20,73 @@ pub(crate) enum Name {
     Range,
 }
 
-// Whether a word is a name. Tests and no `match`: that has a case for each letter, and its proof didn't close.
-fn is(word: &[u8], name: &[u8]) -> bool
-    ensures { result ≡ same_bases word.now name.now }
+const OPTIONS: [(&str, Name); 12] = [
+    ("--target", Name::Target),
+    ("--file", Name::File),
+    ("--exons", Name::Exons),
+    ("--alt", Name::Alternative),
+    ("--kind", Name::Kind),
+    ("--edit", Name::Edit),
+    ("--direction", Name::Direction),
+    ("--window", Name::Window),
+    ("--cds-start", Name::CdsStart),
+    ("--cds-end", Name::CdsEnd),
+    ("--cds", Name::Cds),
+    ("--range", Name::Range),
+];
+
+const KINDS: [(&str, u32); 3] = [("open", 0), ("transcript", 1), ("crossing", 2)];
+
+const EDITS: [(&str, u32); 5] = [
+    ("ins", 0),
+    ("dup", 1),
+    ("del", 2),
+    ("replace", 3),
+    ("inv", 4),
+];
+
+const DIRECTIONS: [(&str, u32); 2] = [("right", 0), ("left", 1)];
+
+// What a word stands for: what the first row that has it says.
+fn meaning<A: Copy>(rows: &[(&str, A)], word: &[u8]) -> Option<A>
+    ensures { result ≡ meant (map (λ row. (row.0.now, row.1)) rows.now) word.now }
 {
-    word == name
+    for (name, value) in rows {
+        if word == name.as_bytes() {
+            return Some(*value);
+        }
+    }
+    None
 }
 
 // The option that a word names.
-#[tactic(auto, unfolding(crate::specs::Names::meaning))]
+#[tactic(auto, unfolding(crate::specs::Names::meaning, crate::specs::Names::meant))]
 pub(crate) fn option_of(word: &[u8]) -> Option<Name>
     ensures { result ≡ meaning options word.now }
 {
-    if is(word, b"--target") {
-        Some(Name::Target)
-    } else if is(word, b"--file") {
-        Some(Name::File)
-    } else if is(word, b"--exons") {
-        Some(Name::Exons)
-    } else if is(word, b"--alt") {
-        Some(Name::Alternative)
-    } else if is(word, b"--kind") {
-        Some(Name::Kind)
-    } else if is(word, b"--edit") {
-        Some(Name::Edit)
-    } else if is(word, b"--direction") {
-        Some(Name::Direction)
-    } else if is(word, b"--window") {
-        Some(Name::Window)
-    } else if is(word, b"--cds-start") {
-        Some(Name::CdsStart)
-    } else if is(word, b"--cds-end") {
-        Some(Name::CdsEnd)
-    } else if is(word, b"--cds") {
-        Some(Name::Cds)
-    } else if is(word, b"--range") {
-        Some(Name::Range)
-    } else {
-        None
-    }
+    meaning(&OPTIONS, word)
 }
 
 // The code of a kind.
-#[tactic(auto, unfolding(crate::specs::Names::meaning))]
+#[tactic(auto, unfolding(crate::specs::Names::meaning, crate::specs::Names::meant))]
 pub(crate) fn kind_of(word: &[u8]) -> Option<u32>
     ensures { result ≡ meaning kinds word.now }
 {
-    if is(word, b"open") {
-        Some(0)
-    } else if is(word, b"transcript") {
-        Some(1)
-    } else if is(word, b"crossing") {
-        Some(2)
-    } else {
-        None
-    }
+    meaning(&KINDS, word)
 }
 
 // The code of an edit.
-#[tactic(auto, unfolding(crate::specs::Names::meaning))]
+#[tactic(auto, unfolding(crate::specs::Names::meaning, crate::specs::Names::meant))]
 pub(crate) fn edit_of(word: &[u8]) -> Option<u32>
     ensures { result ≡ meaning edits word.now }
 {
-    if is(word, b"ins") {
-        Some(0)
-    } else if is(word, b"dup") {
-        Some(1)
-    } else if is(word, b"del") {
-        Some(2)
-    } else if is(word, b"replace") {
-        Some(3)
-    } else if is(word, b"inv") {
-        Some(4)
-    } else {
-        None
-    }
+    meaning(&EDITS, word)
 }
 
 // The code of a direction.
-#[tactic(auto, unfolding(crate::specs::Names::meaning))]
+#[tactic(auto, unfolding(crate::specs::Names::meaning, crate::specs::Names::meant))]
 pub(crate) fn direction_of(word: &[u8]) -> Option<u32>
     ensures { result ≡ meaning directions word.now }
 {
-    if is(word, b"right") {
-        Some(0)
-    } else if is(word, b"left") {
-        Some(1)
-    } else {
-        None
-    }
+    meaning(&DIRECTIONS, word)
 }

@@ -1,6 +1,6 @@
 -- The six puts are one.
 use Rattle.asking.proofs.Pages.{then}
-use Rattle.bench.proofs.answers.put_answer.Goals as goal
+use Rattle.bench.proofs.answers.Buffers.put_answer.Goals as goal
 
 pub returns : goal.returns
 returns c =
