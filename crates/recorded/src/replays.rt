@@ -1,5 +1,5 @@
 // What `normalize` answers to the request of a stored record, and where that differs from what is stored.
-ghost use Rattle.std.specs.Prelude.{◌≡◌, ◌≤◌, length};
+ghost use Rattle.std.specs.Prelude.{◌≡◌, ◌≤◌, ◌&&◌, length};
 ghost use Rattle.definition.specs.Limits.{answer_room};
 ghost use Rattle.definition.specs.Reply.{written};
 ghost use Rattle.recorded.specs.Replay.{filled, request_read, stored_read, reply_to, holds_allele, reply_of, compared_with};
@@ -27,7 +27,9 @@ pub struct Compared {
 
 impl Compared {
     // Whether nothing differs.
-    pub fn agrees(&self) -> bool {
+    pub fn agrees(&self) -> bool
+        ensures { result ≡ (self.now.same_verdict && self.now.same_range && self.now.same_probes && self.now.same_alleles) }
+    {
         self.same_verdict && self.same_range && self.same_probes && self.same_alleles
     }
 }
