@@ -17,6 +17,8 @@ pub mod trims_in_place;
 ghost use Rattle.std.specs.Prelude.{[], ◌++◌, ◌+◌, ◌-◌, ◌%◌, ◌≤◌, length, take, drop};
 ghost use Rattle.alleles.specs.Held.{held, Good, Holds};
 
+use sequences::bases;
+
 /// An allele: the `count` bases from the place `head` on, where the place after the last of the array is its first.
 #[derive(Clone, Copy)]
 pub struct Allele {
@@ -51,7 +53,7 @@ impl Allele {
         requires part_bound { length part.now ≤ 2048 }
         ensures { Holds self.new 0 (length part.now) part.now }
     {
-        self.bytes[..part.len()].copy_from_slice(part);
+        bases::copy(part, &mut self.bytes[..part.len()]);
         self.head = 0;
         self.count = part.len();
     }

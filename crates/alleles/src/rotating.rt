@@ -5,6 +5,8 @@ ghost use Rattle.std.specs.Prelude.{◌≡◌, ◌++◌, ◌+◌, ◌≤◌, len
 ghost use Rattle.definition.specs.Reply.{written};
 ghost use Rattle.alleles.specs.Window.{window, Placed, StoredFront};
 
+use sequences::bases;
+
 // A part is stored from the place at on, round the end; the other bytes are unchanged.
 fn store(bytes: &mut [u8], at: usize, part: &[u8])
     requires { (length bytes.old ≡ 2048) × (at ≤ 4096) × (length part.now ≤ 2048) }
@@ -12,9 +14,9 @@ fn store(bytes: &mut [u8], at: usize, part: &[u8])
 {
     let start = at % 2048;
     let first = part.len().min(2048 - start);
-    bytes[start..start + first].copy_from_slice(&part[..first]);
+    bases::copy(&part[..first], &mut bytes[start..start + first]);
     if first < part.len() {
-        bytes[..part.len() - first].copy_from_slice(&part[first..]);
+        bases::copy(&part[first..], &mut bytes[..part.len() - first]);
     }
 }
 

@@ -4,14 +4,16 @@ ghost use Rattle.std.specs.Prelude.{◌≡◌, ◌≤◌, length};
 ghost use Rattle.definition.specs.Reply.{written};
 ghost use Rattle.alleles.specs.Window.{window, Placed};
 
+use sequences::bases;
+
 /// The window is written out from byte 0; the bytes after it are unchanged.
 pub fn copy_out(bytes: &[u8; 2048], head: usize, count: usize, out: &mut [u8])
     requires { Placed head count × (count ≤ length out.old) }
     ensures { out.new ≡ written (window bytes.now head count) out.old }
 {
     let first = count.min(2048 - head);
-    out[..first].copy_from_slice(&bytes[head..head + first]);
+    bases::copy(&bytes[head..head + first], &mut out[..first]);
     if first < count {
-        out[first..count].copy_from_slice(&bytes[..count - first]);
+        bases::copy(&bytes[..count - first], &mut out[first..count]);
     }
 }

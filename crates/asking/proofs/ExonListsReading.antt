@@ -10,7 +10,7 @@ use lib.Dec.{leb}
 use lib.ListN.{length, drop, get_or, length-append}
 use Rattle.asking.specs.Text.{parts_at}
 use Rattle.asking.specs.Laid.{laid_at}
-use Rattle.asking.proofs.Laid.{laid-nothing, laid-after}
+use Rattle.asking.proofs.Laid.{length-laid, laid-nothing, laid-after}
 use Rattle.asking.specs.declared.exon_lists.BadExons.{BadExons}
 use Rattle.asking.specs.declared.exon_lists.BadExons.TheVariants.{TooMany}
 use Rattle.asking.specs.Exons.{Pairs, pair_bytes, pair_came, pair_put, going_on, pairs_behind, pairs_of}
@@ -50,6 +50,15 @@ done list table {then} {size} {turn} at last =
       ap Ok at.counted ∙ ap (λ (pairs : Pairs). pairs.came) all,
       at.held ∙ ap (λ (pairs : Pairs). laid_at 0 pairs.bytes table) all,
     )
+
+-- whatever a pair put, the table stays as long
+pub long-still : (list table : List ℕ) {then last : List ℕ} {size turn : ℕ} → Reading list table then size turn
+    → (part : List ℕ) → last ≡ laid_at size (pair_put size (pair_bytes part)) then → length last ≡ length table
+long-still list table {then} {last} {size} at part is_last =
+    ap length is_last
+    ∙ length-laid size (pair_put size (pair_bytes part)) then
+    ∙ ap length at.held
+    ∙ length-laid 0 at.taken table
 
 module _ (list table : List ℕ) {then : List ℕ} {size turn : ℕ} (at : Reading list table then size turn)
     {part last : List ℕ} {came : Result ℕ BadExons}

@@ -1,6 +1,7 @@
--- Bytes laid over a text: one, none, and behind others. Assumes nothing.
-use Prim.Native.Nat.{ℕ, zero, suc, ◌+◌}
-use native.Mathlib.Nat.{zero-add, suc-add}
+-- Bytes laid over a text: one, none, past its end, and behind others. Assumes nothing.
+use Prim.Native.Nat.{ℕ, zero, suc, ◌+◌, ◌≤◌}
+use native.Mathlib.Nat.{zero-add, suc-add, le_of_suc-le-suc}
+use native.Mathlib.Omega.{arith}
 use mathlib.Core.Path.{◌≡◌, refl, sym, ap}
 use mathlib.Core.List.{List, [], ◌∷◌, ◌++◌}
 use lib.ListN.{length, set}
@@ -24,6 +25,13 @@ unfolding laid_at
 laid_one [] size byte = refl
 laid_one (t ∷ ts) zero byte = ap {B = List ℕ} (λ r. byte ∷ r) (sym (laid-nothing 0 ts))
 laid_one (t ∷ ts) (suc n) byte = ap {B = List ℕ} (λ r. t ∷ r) (laid_one ts n byte)
+
+-- a text that is full stays as it is
+pub laid-full : (size : ℕ) (bytes text : List ℕ) → length text ≤ size → laid_at size bytes text ≡ text
+unfolding laid_at
+laid-full size bytes [] h = refl
+laid-full zero bytes (t ∷ ts) h = absurd (omega arith)
+laid-full (suc n) bytes (t ∷ ts) h = ap {B = List ℕ} (λ r. t ∷ r) (laid-full n bytes ts (le_of_suc-le-suc h))
 
 pub laid-after : (size : ℕ) (xs ys text : List ℕ) → laid_at (size + length xs) ys (laid_at size xs text) ≡ laid_at size (xs ++ ys) text
 unfolding laid_at

@@ -33,6 +33,7 @@ pub mod Marks
 pub mod Expanding
 pub mod RunsUnique
 -- What the proofs share. Assumes nothing.
+pub mod Given
 pub mod Fronts
 pub mod TargetsUnique
 -- What the proofs share. Assumes nothing.

@@ -1,12 +1,12 @@
--- The laws of a page: a text put after another is the two put as one; what fits stands behind what was there. Assumes nothing.
-use Prim.Native.Nat.{ℕ, suc, ◌+◌, ◌<◌, ◌≤◌}
+-- The laws of a page: a text put after another is the two put as one; what fits stands behind what was there, and a full page stays. Assumes nothing.
+use Prim.Native.Nat.{ℕ, suc, ◌+◌, ◌-◌, ◌<◌, ◌≤◌, min}
 use mathlib.Core.Path.{◌≡◌, refl, sym, ap, ◌∙◌}
-use mathlib.Core.List.{List, [], ◌∷◌, ◌++◌}
+use mathlib.Core.List.{List, [], ◌∷◌, ◌++◌, append_assoc}
 use native.Mathlib.Nat.{add-zero}
 use native.Mathlib.Omega.{arith}
-use lib.ListN.{length, length-set, set, take, get_or, drop}
-use borrow.Author.Tests.{lt-ltb}
-use lib.Seq.{sets, sets-eq}
+use lib.ListN.{length, length-drop, length-set, set, take, take-append-drop, get_or, drop, length-append}
+use borrow.Author.Tests.{le-ltb, lt-ltb}
+use lib.Seq.{sets, sets-eq, drop-drop, length-take-le}
 use Rattle.std.proofs.lemmas.List.{take_more}
 use Rattle.asking.specs.Page.{Page, page, with_byte, with_text, Put}
 use Rattle.asking.specs.declared.terminal.Page as terminal
@@ -54,3 +54,47 @@ pub appended : (text bytes : List ℕ) (used : ℕ) → used + length text ≤ l
     → with_text (page bytes used) text ≡ page (take used bytes ++ text ++ drop (used + length text) bytes) (used + length text)
 appended text bytes used fits =
     stored text bytes used fits ∙ ap (λ (l : List ℕ). page l (used + length text)) (sets-eq text bytes used fits)
+
+-- a full page takes no text
+full : (text bytes : List ℕ) (used : ℕ) → length bytes ≤ used → with_text (page bytes used) text ≡ page bytes used
+unfolding with_text
+full [] bytes used h = refl
+full (byte ∷ text) bytes used h = rw (le-ltb used (length bytes) h) (full text bytes used h)
+
+-- nor does a page on which a text has no room for a byte: the text is empty, or the page is full
+pub none_fits : (text bytes : List ℕ) (used : ℕ) → min (length text) (length bytes - used) ≤ 0 → with_text (page bytes used) text ≡ page bytes used
+unfolding with_text
+none_fits [] bytes used h = refl
+none_fits (byte ∷ text) bytes used h =
+    let h' : min (suc (length text)) (length bytes - used) ≤ 0 = h in
+    full (byte ∷ text) bytes used (omega arith)
+
+-- of any text the front for which there is room goes over the k bytes behind those that were used; what is left finds the page full
+pub cut : (text bytes front : List ℕ) (used size k : ℕ) → used < length bytes → size ≡ min (length text) (length bytes - used) → k ≡ size
+    → front ≡ take size text → page (take used bytes ++ (front ++ drop k (drop used bytes))) (used + size) ≡ with_text (page bytes used) text
+cut text bytes front used size k room fits as_long is =
+    let long : length (take size text) ≡ size = length-take-le size text (omega arith) in
+    let rest = drop size (drop used bytes) in
+    let after = take used bytes ++ (take size text ++ rest) in
+    let same : length after ≡ length bytes =
+    omega (
+      arith,
+      length-append (take used bytes) (take size text ++ rest),
+      length-append (take size text) rest,
+      length-take-le used bytes (omega arith),
+      length-drop size (drop used bytes),
+      length-drop used bytes,
+    ) in
+    let laid : with_text (page bytes used) (take size text) ≡ page after (used + size) =
+    appended (take size text) bytes used (omega arith)
+    ∙ ap (λ (n : ℕ). page (take used bytes ++ take size text ++ drop (used + n) bytes) (used + n)) long
+    ∙ ap (λ (l : List ℕ). page l (used + size))
+    (append_assoc (take used bytes) (take size text) (drop (used + size) bytes)
+    ∙ ap (λ (l : List ℕ). take used bytes ++ (take size text ++ l)) (sym (drop-drop size used bytes))) in
+    rw (is, as_long)
+    (sym (
+    ap (with_text (page bytes used)) (sym (take-append-drop size text))
+    ∙ sym (joined (page bytes used) (take size text) (drop size text))
+    ∙ ap (λ (p : Page). with_text p (drop size text)) laid
+    ∙ none_fits (drop size text) after (used + size) (omega (arith, length-drop size text))
+    ))

@@ -1,5 +1,5 @@
 -- Reading a text's options one after the other: what the options left come to. Assumes nothing.
-use Prim.Native.Nat.{ℕ, zero, suc, ◌+◌, ◌≤◌, ◌<◌}
+use Prim.Native.Nat.{ℕ, zero, suc, ◌+◌, ◌≤◌, ◌<◌, min}
 use native.Mathlib.Omega.{arith}
 use mathlib.Core.Path.{◌≡◌, refl, sym, ap, ◌∙◌}
 use mathlib.Core.List.{List}
@@ -60,3 +60,9 @@ module _ (text : List ℕ) {asked : Request} {at : ℕ} (r : Reading text asked 
     enough = omega (arith, rest.one_less, r.enough, further onward e);
     whole = ap (λ (x : Request). options_from rest.fewer text x taken.next) is-request ∙ sym (goes e);
   }
+
+-- what begins behind a later index begins behind an earlier one
+pub from-before : {E : Type 0} (text : List ℕ) (at value : ℕ) (step : Result Step E) → min (at + 1) (length text) ≤ value → Onward text value step
+    → Onward text at step
+from-before text at value (Ok step) h onward = omega arith
+from-before text at value (Err fault) h onward = onward

@@ -15,7 +15,7 @@ use Rattle.asking.specs.Laid.{laid_at}
 use Rattle.asking.proofs.Laid.{length-laid, laid-nothing}
 use Rattle.asking.specs.declared.exon_lists.BadExons.{BadExons}
 use Rattle.asking.specs.declared.exon_lists.BadExons.TheVariants.{BadPair, TooMany}
-use Rattle.asking.specs.Exons.{Pairs, four_bytes, eight_bytes, numbers_in, pair_bytes, pairs_behind}
+use Rattle.asking.specs.Exons.{Pairs, four_bytes, eight_bytes, numbers_in, pair_bytes, pairs_behind, pairs_of}
 use Rattle.asking.specs.Reached.{exons_at}
 
 -- a pair is eight bytes
@@ -84,5 +84,14 @@ table-front text word table {exons} {size} long are is-laid e is-part =
     let bytes = (exons_at text word).bytes in
     rw (is-part, is-laid, le-ltb size 0 (omega arith), length-laid 0 bytes table, le-ltb (length table) size (omega (arith, fit.most)), sub-zero, fit.counted)
     (laid-front bytes table (omega (arith, fit.most, fit.counted)))
+
+-- a word that is given, or not
+pub no-exons : (text : List ℕ) {word : Option ℕ} → word ≡ None → exons_at text word ≡ record { came = Ok 0; bytes = [] }
+unfolding exons_at
+no-exons text e = rw e
+
+pub some-exons : (text : List ℕ) {word : Option ℕ} {at : ℕ} → word ≡ Some at → exons_at text word ≡ pairs_of (word_at text at)
+unfolding exons_at
+some-exons text e = rw e
 
 pub ruleset nothing_laid = (laid-nothing)

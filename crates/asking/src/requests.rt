@@ -155,33 +155,32 @@ fn numbers_at(text: &[u8], at: usize) -> Option<(u32, u32)>
     Some((start, end))
 }
 
-// What an option says by its words, the first of which begins at an index.
+// What an option says by its words, the first of which begins at an index. A word that is read later, as a target's letters, isn't looked at.
 #[tactic(auto, unfolding(crate::specs::Options::said_by))]
 fn said_by(text: &[u8], option: Name, at: usize) -> Result<Setting, Fault>
     ensures { result ≡ said_by text.now at option }
 {
-    let word = lines::word(text, at);
     match option {
         Name::Target => Ok(Setting::Target(at)),
         Name::File => Ok(Setting::File(at)),
         Name::Exons => Ok(Setting::Exons(at)),
         Name::Alternative => Ok(Setting::Alternative(at)),
-        Name::Kind => names::kind_of(word)
+        Name::Kind => names::kind_of(lines::word(text, at))
             .map(Setting::Kind)
             .ok_or(Fault::BadKind),
-        Name::Edit => names::edit_of(word)
+        Name::Edit => names::edit_of(lines::word(text, at))
             .map(Setting::Edit)
             .ok_or(Fault::BadEdit),
-        Name::Direction => names::direction_of(word)
+        Name::Direction => names::direction_of(lines::word(text, at))
             .map(Setting::Direction)
             .ok_or(Fault::BadDirection),
-        Name::Window => decimals::decimal(word)
+        Name::Window => decimals::decimal(lines::word(text, at))
             .map(Setting::Window)
             .ok_or(Fault::BadWindow),
-        Name::CdsStart => decimals::decimal(word)
+        Name::CdsStart => decimals::decimal(lines::word(text, at))
             .map(Setting::CdsStart)
             .ok_or(Fault::BadBound),
-        Name::CdsEnd => decimals::decimal(word)
+        Name::CdsEnd => decimals::decimal(lines::word(text, at))
             .map(Setting::CdsEnd)
             .ok_or(Fault::BadBound),
         Name::Cds => numbers_at(text, at)

@@ -62,13 +62,10 @@ fn separated(byte: u8, separator: u8) -> u8
 }
 
 // Puts so many of one byte on a page.
-#[tactic(auto, using(crate::proofs::Pages::none))]
 fn put_run(page: &mut Page, byte: u8, times: usize)
     ensures { Put page.old (replicate times byte) page.new }
 {
-    for _turn in 0..times {
-        page.put_byte(byte);
-    }
+    page.put_times(byte, times);
 }
 
 /// Puts a field with its runs written out on a page.

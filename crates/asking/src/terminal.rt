@@ -1,6 +1,6 @@
 // A page on which output is gathered, so that many small pieces of text are one write. What is put on a page can't fail, which a `fmt::Result`
 // would leave open: so functions put the texts, and no impl of `Display` does.
-ghost use Rattle.std.specs.Prelude.{◌≡◌, take, [], ◌∷◌};
+ghost use Rattle.std.specs.Prelude.{◌≡◌, ◌-◌, min, length, take, replicate, [], ◌∷◌};
 ghost use Rattle.asking.specs.Digits.{decimal_text};
 ghost use Rattle.asking.specs.Page.{page, shown, Put};
 
@@ -47,13 +47,33 @@ impl<'a> Page<'a> {
         }
     }
 
+    // How many of so many bytes there is room for.
+    fn fitting(&self, size: usize) -> usize
+        ensures { result ≡ min size (length self.now.bytes.now - self.now.used) }
+    {
+        size.min(self.bytes.len().saturating_sub(self.used))
+    }
+
     /// Puts the bytes of a text.
-    #[tactic(auto, using(crate::proofs::Pages::none))]
+    // All at once, and not byte by byte: each byte would load the page's fields and store them.
     pub fn put(&mut self, text: &[u8])
         ensures { Put self.old text.now self.new }
     {
-        for byte in text {
-            self.put_byte(*byte);
+        let size = self.fitting(text.len());
+        if 0 < size {
+            self.bytes[self.used..self.used + size].copy_from_slice(&text[..size]);
+            self.used += size;
+        }
+    }
+
+    // Puts so many of one byte, all at once as well.
+    pub(crate) fn put_times(&mut self, byte: u8, times: usize)
+        ensures { Put self.old (replicate times byte) self.new }
+    {
+        let size = self.fitting(times);
+        if 0 < size {
+            self.bytes[self.used..self.used + size].fill(byte);
+            self.used += size;
         }
     }
 

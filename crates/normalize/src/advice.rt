@@ -1,9 +1,19 @@
 // What to change where a request is refused: a sentence for each refusal.
 ghost use Rattle.std.specs.Prelude.{◌≡◌};
+ghost use Rattle.asking.specs.Page.{Put};
 ghost use Rattle.normalize.specs.Advice.{advice_text};
 
+use asking::terminal::Page;
 use definition::Refusal;
 
+// Puts what to change.
+pub(crate) fn put_advice(page: &mut Page, refusal: Refusal)
+    ensures { Put page.old (advice_text refusal) page.new }
+{
+    page.put(advice(refusal).as_bytes());
+}
+
+// What to change, in a sentence.
 #[tactic(auto, unfolding(crate::specs::Advice::advice_text))]
 pub(crate) fn advice(refusal: Refusal) -> &'static str
     ensures { result.now ≡ advice_text refusal }

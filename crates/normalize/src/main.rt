@@ -96,7 +96,7 @@ impl Buffers<'_> {
             Err(refusal) => {
                 refusals::put_refusal(page, refusal);
                 page.put(b": ");
-                page.put(advice::advice(refusal).as_bytes());
+                advice::put_advice(page, refusal);
             }
         }
     }
@@ -106,7 +106,7 @@ impl Buffers<'_> {
 fn put_problem(page: &mut Page, text: &[u8], problem: Problem) {
     match problem {
         Problem::Wrong(_, at) if lines::word(text, at) == b"--help".as_slice() => {
-            page.put(usage::usage().as_bytes());
+            usage::put_usage(page);
         }
         _ => problems::put_problem(page, text, problem),
     }

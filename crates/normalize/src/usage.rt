@@ -1,7 +1,18 @@
 // What --help prints.
 ghost use Rattle.std.specs.Prelude.{◌≡◌};
+ghost use Rattle.asking.specs.Page.{Put};
 ghost use Rattle.normalize.specs.Usage.{usage_text};
 
+use asking::terminal::Page;
+
+// Puts the usage.
+pub(crate) fn put_usage(page: &mut Page)
+    ensures { Put page.old usage_text page.new }
+{
+    page.put(usage().as_bytes());
+}
+
+// The usage.
 #[tactic(auto, unfolding(crate::specs::Usage::usage_text))]
 pub(crate) fn usage() -> &'static str
     ensures { result.now ≡ usage_text }

@@ -1,3 +1,5 @@
+pub mod Tests
+pub mod Bounds
 pub mod Answers
 pub mod Rows
 pub mod LaterRows

@@ -1,4 +1,4 @@
--- Where row 5 leaves a request: refused by it, or past it. Assumes nothing.
+-- Where rows 1 to 5 leave a request: refused by one, or past it. Assumes nothing.
 use mathlib.Core.Path.{◌≡◌, refl, sym, ap, ◌∙◌}
 use mathlib.Core.Bool.{Bool, true, false, cond}
 use Prim.Native.Nat.{ℕ, ◌≤◌, ◌<◌}
@@ -10,7 +10,7 @@ use Rattle.definition.specs.declared.Bound.{Bound}
 use Rattle.definition.specs.declared.Edit.{Edit}
 use Rattle.definition.specs.declared.Kind.{Kind}
 use Rattle.definition.specs.declared.Direction.{Direction}
-use Rattle.definition.specs.declared.Refusal.TheVariants.{CoordinatesOutOfBounds}
+use Rattle.definition.specs.declared.Refusal.TheVariants.{BadCode, BadWindow, BadTarget, BadBase, CoordinatesOutOfBounds}
 use Rattle.definition.specs.declared.Zero.{Zero}
 use Rattle.definition.specs.declared.Range.{Range}
 use Rattle.normalizer.specs.Range.{range_from, ordered_range, range_of, range_read}
@@ -24,20 +24,39 @@ use Rattle.definition.proofs.Tests.{or-false, none-some}
 use Rattle.normalizer.specs.Passed.{range_verdict}
 use Rattle.std.specs.Prelude.{None, Option, Some}
 
--- past rows 1 to 4
-module _ (r : Request) (e₁ : bad_code r ≡ false) (e₂ : bad_window r ≡ false) (e₃ : bad_target r ≡ false) (e₄ : bad_base r ≡ false) where
-  pub row-5 : out_of_bounds r ≡ true → verdict r ≡ refused CoordinatesOutOfBounds
-  unfolding verdict rows request_rows target_rows change_rows refused_or
-  row-5 e = rw (e₁, e₂, e₃, e₄, e)
+module _ (r : Request) where
+  pub row-1 : bad_code r ≡ true → verdict r ≡ refused BadCode
+  unfolding verdict rows request_rows target_rows refused_or
+  row-1 e = rw e
 
-  -- past row 5 the range is two numbers, and what is left speaks of them
-  pub past-row-5 : out_of_bounds r ≡ false
-      → range_verdict r.target (kind_of r.kind_code) r.exon_bytes (bound_of r.cds_start) (bound_of r.cds_end) (start_of r) (end_of r)
-      (edit_of r.edit_code) r.alternative (direction_of r.direction_code) r.reference_room r.alternative_room
-      ≡ verdict r
-  unfolding verdict rows request_rows target_rows change_rows bad_insertion too_long bad_allele no_room bad_tables answer_in answered_at_once piece_of
-      change_of range_verdict
-  past-row-5 e = rw (e₁, e₂, e₃, e₄, e)
+  module _ (e₁ : bad_code r ≡ false) where
+    pub row-2 : bad_window r ≡ true → verdict r ≡ refused BadWindow
+    unfolding verdict rows request_rows target_rows refused_or
+    row-2 e = rw (e₁, e)
+
+    module _ (e₂ : bad_window r ≡ false) where
+      pub row-3 : bad_target r ≡ true → verdict r ≡ refused BadTarget
+      unfolding verdict rows request_rows target_rows refused_or
+      row-3 e = rw (e₁, e₂, e)
+
+      module _ (e₃ : bad_target r ≡ false) where
+        pub row-4 : bad_base r ≡ true → verdict r ≡ refused BadBase
+        unfolding verdict rows request_rows target_rows refused_or
+        row-4 e = rw (e₁, e₂, e₃, e)
+
+        module _ (e₄ : bad_base r ≡ false) where
+          pub row-5 : out_of_bounds r ≡ true → verdict r ≡ refused CoordinatesOutOfBounds
+          unfolding verdict rows request_rows target_rows change_rows refused_or
+          row-5 e = rw (e₁, e₂, e₃, e₄, e)
+
+          -- past row 5 the range is two numbers, and what is left speaks of them
+          pub past-row-5 : out_of_bounds r ≡ false
+              → range_verdict r.target (kind_of r.kind_code) r.exon_bytes (bound_of r.cds_start) (bound_of r.cds_end) (start_of r) (end_of r)
+              (edit_of r.edit_code) r.alternative (direction_of r.direction_code) r.reference_room r.alternative_room
+              ≡ verdict r
+          unfolding verdict rows request_rows target_rows change_rows bad_insertion too_long bad_allele no_room bad_tables answer_in answered_at_once piece_of
+              change_of range_verdict
+          past-row-5 e = rw (e₁, e₂, e₃, e₄, e)
 
 -- what the rows that were passed say
 pub target-short : (size : ℕ) → size_outside size ≡ false → size ≤ longest_target

@@ -14,6 +14,7 @@ use results::buffers::Buffers;
 use sequences::reach;
 
 /// The class of a request that is answered at once; only a replacement is. Another, `None`, is answered in its piece.
+#[inline(always)]
 #[tactic(auto, unfolding(crate::specs::Ways::way_of))]
 pub fn way_of(query: &Query) -> Option<Class>
     requires { (query.now.range.start.0 < query.now.range.end.0) × (query.now.range.end.0 ≤ length query.now.target.now) }

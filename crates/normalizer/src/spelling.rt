@@ -13,7 +13,7 @@ ghost use Rattle.normalizer.specs.Spelled.{gaps_of, copied_by};
 use crate::edits;
 use crate::queries::Query;
 use alleles::Allele;
-use definition::{Edit, LONGEST_ALLELE, Outcome, Piece, Range, Zero};
+use definition::{Direction, Edit, Kind, LONGEST_ALLELE, Outcome, Piece, Range, Zero};
 use results::buffers::Buffers;
 use results::changes::Moved;
 use sequences::bases;
@@ -27,12 +27,20 @@ struct Gaps {
 }
 
 // The change that a request spells, moved in its piece and named there. The buffers of its two alleles are made here, once, and lent from here on.
-fn moved(query: &Query, piece: Piece, spelled: Spelled, buffers: &mut Buffers) -> Outcome
-    requires asked { Asked piece query.now.target.now (change spelled) query.now.window }
-    requires in_bounds { (1 ≤ length query.now.target.now) × (length query.now.target.now ≤ longest_target) }
+fn moved(
+    direction: Direction,
+    kind: Kind,
+    target: &[u8],
+    piece: Piece,
+    spelled: Spelled,
+    window: usize,
+    buffers: &mut Buffers,
+) -> Outcome
+    requires asked { Asked piece target.now (change spelled) window }
+    requires in_bounds { (1 ≤ length target.now) × (length target.now ≤ longest_target) }
     requires room { Room buffers.old.reference.now buffers.old.alternative.now }
     ensures met { MetIn
-        (moved_in query.now.direction query.now.kind piece query.now.target.now (change spelled.entry))
+        (moved_in direction kind piece target.now (change spelled.entry))
         result buffers.old buffers.new }
     ensures same_buffers { SameBuffers buffers.old buffers.new }
 {
@@ -40,23 +48,16 @@ fn moved(query: &Query, piece: Piece, spelled: Spelled, buffers: &mut Buffers) -
         reference: Allele::empty(),
         alternative: Allele::empty(),
     };
-    let moved = shuffle::normalize_alleles(
-        query.direction,
-        query.target,
-        piece,
-        spelled,
-        query.window,
-        &mut alleles,
-    );
+    let moved = shuffle::normalize_alleles(direction, target, piece, spelled, window, &mut alleles);
     let change = Moved {
-        target: query.target,
-        direction: query.direction,
+        target,
+        direction,
         piece,
         place: moved.place,
         reference_size: alleles.reference.count,
         alternative: &alleles.alternative,
     };
-    results::build_result(&change, query.kind, moved.probes, buffers)
+    results::build_result(&change, kind, moved.probes, buffers)
 }
 
 // The two gaps of the change that an edit spells: an insertion goes in behind its first flanking base, a duplication's copy behind its range.
@@ -94,6 +95,7 @@ fn copied<'a>(edit: Edit, target: &'a [u8], range: Range) -> &'a [u8]
 }
 
 // An edit that reads no alternative: its bases are the reverse complement of the range, a copy of it, or none.
+#[inline(always)]
 fn spell_from_target(query: &Query, piece: Piece, buffers: &mut Buffers) -> Outcome
     requires ranged { InPiece query.now piece }
     requires reads_none { reads query.now.edit ≡ false }
@@ -112,7 +114,15 @@ fn spell_from_target(query: &Query, piece: Piece, buffers: &mut Buffers) -> Outc
             to: range.end,
             inserted: &buffer[..size],
         };
-        return moved(query, piece, inverted, buffers);
+        return moved(
+            query.direction,
+            query.kind,
+            query.target,
+            piece,
+            inverted,
+            query.window,
+            buffers,
+        );
     }
     let gaps = gaps_of(query.edit, range);
     let inserted = copied(query.edit, query.target, range);
@@ -121,10 +131,19 @@ fn spell_from_target(query: &Query, piece: Piece, buffers: &mut Buffers) -> Outc
         to: gaps.to,
         inserted,
     };
-    moved(query, piece, spelled, buffers)
+    moved(
+        query.direction,
+        query.kind,
+        query.target,
+        piece,
+        spelled,
+        query.window,
+        buffers,
+    )
 }
 
 /// The change that each edit spells, moved in its piece and named there.
+#[inline(always)]
 pub fn spell(query: &Query, piece: Piece, buffers: &mut Buffers) -> Outcome
     requires ranged { InPiece query.now piece }
     requires read { Reads query.now }
@@ -143,5 +162,13 @@ pub fn spell(query: &Query, piece: Piece, buffers: &mut Buffers) -> Outcome
         to: gaps.to,
         inserted: query.alternative,
     };
-    moved(query, piece, spelled, buffers)
+    moved(
+        query.direction,
+        query.kind,
+        query.target,
+        piece,
+        spelled,
+        query.window,
+        buffers,
+    )
 }

@@ -14,6 +14,7 @@ use definition::{Outcome, Refusal};
 use results::buffers::Buffers;
 
 // A request that passes rows 1 to 10: an answer at once, or rows 12 to 15 and the change in its piece.
+#[inline(always)]
 fn answer_passed(query: &Query, buffers: &mut Buffers) -> Outcome
     requires passed { HasPassed query.now }
     requires room { Room buffers.old.reference.now buffers.old.alternative.now }
@@ -30,6 +31,7 @@ fn answer_passed(query: &Query, buffers: &mut Buffers) -> Outcome
 }
 
 // Rows 6 to 10, of a range that passes row 5; then the answer.
+#[inline(always)]
 #[tactic(auto, unfolding(crate::specs::Passed::range_verdict, definition::specs::Verdict::refused_or, definition::specs::Reply::outcome_of, definition::specs::Reply::reference_out, definition::specs::Reply::alternative_out, definition::specs::Reply::written))]
 pub(crate) fn normalize_range(query: &Query, buffers: &mut Buffers) -> Outcome
     requires { InTarget query.now }

@@ -1,7 +1,7 @@
 -- When the copy beside an insertion is there: tested by where it would lie, and then base by base. Assumes nothing.
 use Prim.Native.Nat.{ℕ, ◌+◌, ◌-◌, ◌≤◌, ◌<◌}
 use native.Mathlib.Omega.{arith}
-use mathlib.Core.Path.{◌≡◌, refl, sym, ◌∙◌}
+use mathlib.Core.Path.{◌≡◌, refl, sym, ap, ◌∙◌}
 use mathlib.Core.Bool.{Bool, true, false}
 use mathlib.Core.List.{List}
 use borrow.Author.Tests.{le-leb, lt-leb, leb-true}
@@ -71,7 +71,17 @@ copy_is Leftward piece target g ins t =
     let h : (leb (g + length ins) piece.right.0 ≡ true) × (same_bases (slice g (g + length ins) target) ins ≡ true) = and-true _ _ t in
     same-equal _ _ h.1
 
--- where none is found there is no copy
+-- what is found tells whether there is a copy, and where
+pub found_at : (copy : Bool) (start : ℕ) (place : Zero) (r : Option Zero) → r ≡ found copy start → r ≡ Some place → (copy ≡ true) × (place.0 ≡ start)
+found_at true start place r e f =
+    let g : ◌≡◌ {A = Option Zero} (Some place) (Some (record { 0 = start })) = sym f ∙ e in
+    let h : place ≡ record { 0 = start } = cc in
+    (refl, ap (λ (z : Zero). z.0) h)
+found_at false start place r e f =
+    let g : ◌≡◌ {A = Option Zero} (Some place) None = sym f ∙ e in
+    let z : ◌≡◌ {A = ℕ} 0 1 = cc in
+    absurd (omega arith)
+
 pub found_none : (copy : Bool) (start : ℕ) (r : Option Zero) → r ≡ found copy start → r ≡ None → copy ≡ false
 found_none true start r e f =
     let g : ◌≡◌ {A = Option Zero} None (Some (record { 0 = start })) = sym f ∙ e in

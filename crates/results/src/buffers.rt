@@ -12,6 +12,7 @@ use crate::classes::{Anchor, Called};
 use alleles::Allele;
 use alleles::rotating_out::copy_out;
 use definition::{Answered, Outcome};
+use sequences::bases;
 
 /// The two answer buffers that a caller lends.
 #[derive(Drop)]
@@ -28,7 +29,7 @@ pub fn write_part(part: &[u8], out: &mut [u8])
     requires { length part.now ≤ length out.old }
     ensures { out.new ≡ written part.now out.old }
 {
-    out[..part.len()].copy_from_slice(part);
+    bases::copy(part, &mut out[..part.len()]);
 }
 
 // The first bases of the alternative, so many, are written out with their anchor, and how many bytes that is comes back.

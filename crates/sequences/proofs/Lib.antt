@@ -1,4 +1,5 @@
 pub mod Unique
+pub mod AllBases
 pub mod Gathered
 pub mod ReverseComplement
 pub mod SameBases

@@ -3,8 +3,8 @@ use Rattle.std.specs.Prelude.{◌≡◌, ℕ, suc, ◌+◌, ◌-◌, ◌≤◌, 
 use Rattle.std.proofs.Common.{ap, ap₂, sym, ◌∙◌, arith, take-append-drop}
 use Rattle.std.proofs.Math.Seq.{take-add, drop-drop}
 use Rattle.definition.specs.Prefix.{lcp, lcs}
-use Rattle.definition.proofs.Prefixes.{lcp-take, lcp-max, lcs-drop, lcs-max}
-use Rattle.definition.proofs.Steps.{lcs-next, lcs-same}
+use Rattle.definition.proofs.Prefixes.{lcp-take, lcp-max, lcp-le-left, lcp-le-right, lcs-drop, lcs-max, lcs-le-left, lcs-le-right}
+use Rattle.definition.proofs.Steps.{lcp-next, lcp-stop, lcs-next, lcs-same}
 
 pub further : (n k : ℕ) (xs ys : List ℕ) → n ≤ lcp xs ys → n + k ≤ length xs → n + k ≤ length ys
     → take k (drop n xs) ≡ take k (drop n ys) → n + k ≤ lcp xs ys
@@ -44,3 +44,8 @@ module _ (xs ys : List ℕ) (n : ℕ) (i : n < length xs) (j : n < length ys) (s
 
   pub end-stops : (get_or xs (length xs - 1 - n) 0 ≡ get_or ys (length ys - 1 - n) 0 → ⊥) → n ≡ lcs xs ys
   end-stops differ = lcs-stop xs ys n shared i j (λ e. differ (sym (from-the-end xs n) ∙ e ∙ from-the-end ys n))
+
+-- what a shared beginning and a shared end, counted base by base, rest on, as sets that an attribute can name
+pub ruleset beginnings = (lcp-le-left, lcp-le-right, lcp-next, lcp-stop)
+
+pub ruleset endings = (lcs-le-left, lcs-le-right, end-grows, end-stops)

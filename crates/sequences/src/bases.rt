@@ -37,6 +37,17 @@ pub fn all_bases(s: &[u8]) -> bool
     all
 }
 
+/// Puts the bytes of `part` into `out`, which is as long.
+// A loop, and no `copy_from_slice`: the compiler makes of that a call of `memmove`, which a host of the archive would have to bring.
+pub fn copy(part: &[u8], out: &mut [u8])
+    requires { length out.old ≡ length part.now }
+    ensures { out.new ≡ part.now }
+{
+    for i in 0..part.len() {
+        out[i] = part[i];
+    }
+}
+
 /// The reverse complement of `part` at the front of `out`, whose other bytes stay as they are; and how many bytes that is.
 #[tactic(auto, using(crate::proofs::ReverseComplement::laid))]
 pub fn revcomp(part: &[u8], out: &mut [u8]) -> usize

@@ -1,5 +1,5 @@
-// The entry, exported for C and for every host that links an archive: byte slices and numbers, tables as 32-bit little-endian pairs. It asks nothing of
-// its caller.
+// The entry: what a host calls with byte slices and numbers, tables as 32-bit little-endian pairs. It asks nothing of its caller. Crate `sundrimel_c`
+// exports it; another crate may call it here, which it can't do of a static library.
 #![tactic(auto)]
 
 ghost use Rattle.std.specs.Prelude.{length};

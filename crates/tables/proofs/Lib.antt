@@ -4,3 +4,4 @@ pub mod Pairs
 pub mod ExonsUnique
 pub mod LittleEndianUnique
 pub mod Order
+pub mod Turns

@@ -1,10 +1,10 @@
 -- Row 10's rules in terms of the table's bytes: what their number alone decides, and what is left to test. Assumes nothing.
-use mathlib.Core.Path.{◌≡◌}
-use mathlib.Core.Bool.{Bool, false, ◌&&◌}
+use mathlib.Core.Path.{◌≡◌, sym, ◌∙◌}
+use mathlib.Core.Bool.{Bool, true, false, not, ◌&&◌}
 use mathlib.Core.List.{List}
 use Prim.Native.Nat.{ℕ, ◌*◌, ◌%◌, ◌≤◌, ◌<◌}
 use native.Mathlib.Omega.{arith}
-use borrow.Author.Tests.{eq-eqb, ne_eqb, le-leb, lt-leb}
+use borrow.Author.Tests.{eq-eqb, ne_eqb, le-leb, lt-leb, not-true, not-false}
 use lib.ListN.{length}
 use Rattle.definition.specs.declared.Bound.{Bound}
 use Rattle.definition.specs.Limits.{most_exons}
@@ -43,3 +43,10 @@ module _ (bytes : List ℕ) (cds_start cds_end : Bound) (size : ℕ) where
         le-leb 1 (length (exons_in bytes)) (omega (arith, count bytes)),
         le-leb (length (exons_in bytes)) most_exons (omega (arith, count bytes)),
       ) e
+
+-- a rule that a function tested, by its answer r
+pub broken : {r rule : Bool} → r ≡ rule → not r ≡ true → rule ≡ false
+broken {r} e h = sym e ∙ not-true r h
+
+pub kept : {r rule : Bool} → r ≡ rule → not r ≡ false → rule ≡ true
+kept {r} e h = sym e ∙ not-false r h

@@ -1,9 +1,9 @@
--- By the request that the words make, and by what its target comes to; the letters of that stand at the front of its room.
-use Rattle.std.proofs.Common.{refl, ◌∙◌}
+-- By the request that the words make.
+use Rattle.std.proofs.Common.{refl}
 use Rattle.std.proofs.lemmas.Result.{err_from_is_err_and}
 use Rattle.definition.proofs.Tests.{none-gives}
 use Rattle.asking.specs.Sources.{bytes_of}
-use Rattle.asking.proofs.Came.{stops, goes_on, unread, with-letters, broken, no-edit, no-range, with-range}
+use Rattle.asking.proofs.Came.{stops, goes_on, broken, no-edit, no-range, with-range}
 use Rattle.asking.proofs.ask.Goals as goal
 
 pub returns-in_err-request : goal.returns-in_err-request
@@ -24,22 +24,8 @@ returns-in_err-range c =
     rw (p.1, p.2, none-gives none.value none.ok_part)
     (stops (no-range _ _ _ _ c.in_ok-request.ensures refl c.in_ok-edit.ensures.ok_part none.ok_part))
 
-pub returns-in_err-size : goal.returns-in_err-size
-returns-in_err-size c =
-    let a = c.args in
-    let p = err_from_is_err_and c.from_residual-in_err-size.result c.from_residual-in_err-size.ensures.1 in
-    let is = with-range a.text.now (bytes_of a.file) _ _ c.in_ok-request.ensures refl c.in_ok-edit.ensures.ok_part c.in_ok-range.ensures.ok_part in
-    let room = c.room-target in
-    rw (p.1, p.2)
-    (stops
-    (is
-    ∙ unread a.text.now c.in_ok-request.request c.in_ok-edit.edit c.in_ok-range.range (bytes_of a.file) _ _ room.result room.ensures.size c.in_err-size.ensures.value refl))
-
 pub returns : goal.returns
 returns c =
     let a = c.args in
-    let is = with-range a.text.now (bytes_of a.file) _ _ c.in_ok-request.ensures refl c.in_ok-edit.ensures.ok_part c.in_ok-range.ensures.ok_part in
-    let room = c.room-target in
-    let came = c.in_ok-size.ensures in
-    let on = with-letters a.text.now c.in_ok-request.request c.in_ok-edit.edit c.in_ok-range.range (bytes_of a.file) _ _ room.result room.ensures.size came.value in
-    goes_on (is ∙ on refl came.target_after c.part.ensures) c.hand.ensures
+    goes_on (with-range a.text.now (bytes_of a.file) _ _ c.in_ok-request.ensures refl c.in_ok-edit.ensures.ok_part c.in_ok-range.ensures.ok_part)
+    c.read_and_hand.ensures

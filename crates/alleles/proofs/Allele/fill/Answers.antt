@@ -9,5 +9,5 @@ returns c =
       good = record { start = omega arith; fits = c.requires.part_bound };
       head = refl;
       count = refl;
-      bases = rw c.copy_from_slice.ensures.after (filled-window c.args.self.now.bytes c.args.part.now (omega arith) c.requires.part_bound);
+      bases = rw c.copy.ensures (filled-window c.args.self.now.bytes c.args.part.now (omega arith) c.requires.part_bound);
     }

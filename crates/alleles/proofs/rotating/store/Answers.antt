@@ -10,7 +10,7 @@ returns-then-first-part c =
     let s = a.at % 2048 in
     let f = c.min-first.result in
     let width : s + f - s ≡ f = omega arith in
-    rw (c.copy_from_slice.ensures.after, c.copy_from_slice-then-first-part.ensures.after, width, take_rest a.part.now f)
+    rw (c.copy.ensures, c.copy-then-first-part.ensures, width, take_rest a.part.now f)
     (copied-written a.bytes.now a.part.now s f (length a.part.now - f) c.requires.0 c.requires.2 (omega arith) c.min-first.ensures refl a.at refl)
 
 pub returns-else-first-part : goal.returns-else-first-part
@@ -19,5 +19,5 @@ returns-else-first-part c =
     let s = a.at % 2048 in
     let f = c.min-first.result in
     let width : s + f - s ≡ f = omega arith in
-    rw (c.copy_from_slice.ensures.after, width)
+    rw (c.copy.ensures, width)
     (copied-once a.bytes.now a.part.now s f a.at c.requires.0 c.requires.2 refl c.min-first.ensures c.if-first-part.false)
